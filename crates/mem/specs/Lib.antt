@@ -1,0 +1,10 @@
+-- A slice as a list, loops over it, and chains in it: the laws that every layer's proofs share.
+pub mod Cases
+-- parts of a slice: what is read and what is written
+pub mod Slice
+-- loops: over the places of a range, again and again, and writing place after place
+pub mod Loops
+pub mod Tab
+-- lists of records in memory, and numbers chained by their keys
+pub mod Packed
+pub mod Chain
