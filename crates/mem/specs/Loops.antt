@@ -4,7 +4,7 @@
 -- `each step i n s`: the state s after `step i`, `step (i + 1)`, .. up to `step (n - 1)`.
 -- `times n turn s`: the state s after n turns.
 -- Assumes nothing.
-use mathlib.Core.Path.{_≡_, refl, sym, ap, _∙_}
+use mathlib.Core.Path.{_≡_, refl, sym, ap, _∙_, subst}
 use Prim.Native.Nat.{ℕ, zero, suc, _+_, _-_, _≤_, _<_, _*_}
 use native.Mathlib.Nat.{suc-mul, mul-le-mul-right, le-trans}
 use native.Mathlib.Numerals.{add-one}
@@ -105,6 +105,17 @@ module _ {S : Type 0} (step : ℕ → S → S) (P : S → Type 0) where
   pub each-ind : (i n : ℕ) → ((j : ℕ) (s : S) → i ≤ j → j < n → P s → P (step j s)) → (s : S) → P s → P (each step i n s)
   unfolding each
   each-ind i n h s p = steps-ind (n - i) i (λ j t a b q. h j t a (omega arith) q) s p
+
+-- what is known at each place, step by step
+module _ {S : Type 0} (step : ℕ → S → S) (P : ℕ → S → Type 0) (n : ℕ) (kept : (i : ℕ) (s : S) → i < n → P i s → P (suc i) (step i s)) where
+  steps-at : (m i : ℕ) (s : S) → i + m ≡ n → P i s → P n (steps step i m s)
+  unfolding steps
+  steps-at zero i s h p = let e : i ≡ n = omega arith in subst (λ (k : ℕ). P k s) e p
+  steps-at (suc m) i s h p = steps-at m (suc i) (step i s) (omega arith) (kept i s (omega arith) p)
+
+  pub each-at : (s : S) → P 0 s → P n (each step 0 n s)
+  unfolding each
+  each-at s p = steps-at (n - 0) 0 s (omega arith) p
 
 -- The invariant of such a loop: the rest of the steps from the state now give the whole
 pub record Doing {S : Type 0} (step : ℕ → S → S) (whole : S) (n : ℕ) (s : S) (i : ℕ) : Type 0 where

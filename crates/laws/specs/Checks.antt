@@ -1,0 +1,151 @@
+-- Replies 1 to 6: what is known of a job that passes the checks, and its counts. Assumes nothing.
+use Prim.Native.Nat.{ℕ, zero, suc, _+_, _-_, _≤_, _<_}
+use native.Mathlib.Omega.{arith}
+use mathlib.Core.Path.{_≡_, refl}
+use mathlib.Core.Bool.{Bool, true, false, not, cond, _||_}
+use mathlib.Core.Logic.{⊎-elim}
+use mathlib.Core.List.{List}
+use lib.Dec.{leb, ltb}
+use borrow.Author.Tests.{ltb-false, not-false, le-leb}
+use lib.ListN.{length, getD}
+use Rattle.ints.specs.Bools.{or-left, or-right}
+use Rattle.mem.specs.Loops.{over, run}
+use Rattle.mem.specs.Cases.{lt-or-le}
+use Rattle.rules.specs.declared.Vertex.{Vertex}
+use Rattle.rules.specs.declared.Found.{Found}
+use Rattle.rules.specs.declared.Found.the-variants.{At, Nothing}
+use Rattle.rules.specs.declared.Refusal.{Refusal}
+use Rattle.rules.specs.declared.Refusal.the-variants.{BadCornerLimit, CountsDisagree, HighCoordinate, BadFlag, TooManyVertices, ShortBuffer}
+use Rattle.rules.specs.Lists.{when, orElse}
+use Rattle.rules.specs.Plane.{onPlane, InGrid}
+use Rattle.rules.specs.Job.{Job, vertexAt, flagAt, sumOver, countAll, countV, countT}
+use Rattle.rules.specs.Checks.{Checked, passed, refusal, orNext, refuseIf, refuseAt, checkNvp, countsAgree, checkCounts, isHigh, firstHigh, firstBadFlag, checkV, leastLengths, firstShort, check}
+
+-- ---- a check that passes
+or-first : (a b : Checked) → orNext a b ≡ passed → a ≡ passed
+unfolding orNext
+or-first passed b e = refl
+or-first (refusal r) b e = e
+
+or-second : (a b : Checked) → orNext a b ≡ passed → b ≡ passed
+unfolding orNext
+or-second passed b e = e
+or-second (refusal r) b e = let z : _≡_ {A = ℕ} 0 1 = cc in absurd (omega arith)
+
+not-refused : (b : Bool) (r : Refusal) → refuseIf b r ≡ passed → b ≡ false
+unfolding refuseIf
+not-refused true r e = let z : _≡_ {A = ℕ} 0 1 = cc in absurd (omega arith)
+not-refused false r e = refl
+
+not-found : (r : ℕ → Refusal) (f : Found) → refuseAt r f ≡ passed → f ≡ Nothing
+unfolding refuseAt
+not-found r (At k) e = let z : _≡_ {A = ℕ} 0 1 = cc in absurd (omega arith)
+not-found r Nothing e = refl
+
+-- a search that finds nothing
+none-here : (b : Bool) (k : ℕ) (r : Found) → orElse (when b k) r ≡ Nothing → (b ≡ false) × (r ≡ Nothing)
+unfolding orElse when
+none-here true k r e = let z : _≡_ {A = ℕ} 0 1 = cc in absurd (omega arith)
+none-here false k r e = (refl, e)
+
+run-none : (test : ℕ → Bool) (m i : ℕ) → run Nothing orElse (λ k. when (test k) k) i m ≡ Nothing → (k : ℕ) → i ≤ k → k < i + m → test k ≡ false
+unfolding run
+run-none test zero i e k h l = absurd (omega arith)
+run-none test (suc m) i e k h l =
+    let n = none-here (test i) i (run Nothing orElse (λ k. when (test k) k) (suc i) m) e in
+    ⊎-elim (λ (a : i < k). run-none test m (suc i) (n .1) k a (omega arith)) (λ (a : k ≤ i). let q : k ≡ i = omega arith in rw q (n .0)) (lt-or-le i k)
+
+pub first-none : (test : ℕ → Bool) (n : ℕ) → over Nothing orElse (λ k. when (test k) k) 0 n ≡ Nothing → (k : ℕ) → k < n → test k ≡ false
+unfolding over
+first-none test n e k h = run-none test (n - 0) 0 e k (omega arith) (omega arith)
+
+not-high : (v : Vertex) → isHigh v ≡ false → InGrid (onPlane v)
+unfolding isHigh
+not-high v e = record {
+  x-small = ltb-false 32767 (v .x) (or-left (ltb 32767 (v .x)) (ltb 32767 (v .z)) e);
+  z-small = ltb-false 32767 (v .z) (or-right (ltb 32767 (v .x)) (ltb 32767 (v .z)) e);
+}
+
+-- what a job that passes the checks is, where ls are the lengths of the lent buffers
+pub record Passed (j : Job) (ls : List ℕ) : Type 0 where
+  pub nvp-low : 3 ≤ j .nvp
+  pub nvp-high : j .nvp ≤ 12
+  pub agree : countsAgree j ≡ true
+  pub grid : (k : ℕ) → k < countAll j → InGrid (onPlane (vertexAt (j .numbers) k))
+  pub flags : (k : ℕ) → k < countAll j → flagAt (j .numbers) k ≤ 1
+  pub few : countV j ≤ 65535
+  pub room : (k : ℕ) → k < length (leastLengths j) → getD (leastLengths j) k 0 ≤ getD ls k 0
+
+pub checked : (j : Job) (ls : List ℕ) → check j ls ≡ passed → Passed j ls
+unfolding check checkNvp checkCounts checkV firstHigh firstBadFlag firstShort
+checked j ls e₁ = record {
+  nvp-low = ltb-false (j .nvp) 3 (or-left (ltb (j .nvp) 3) (ltb 12 (j .nvp)) n);
+  nvp-high = ltb-false 12 (j .nvp) (or-right (ltb (j .nvp) 3) (ltb 12 (j .nvp)) n);
+  agree = not-false (countsAgree j) (not-refused (not (countsAgree j)) CountsDisagree (or-first (checkCounts j) _ e₂));
+  grid = λ k h. not-high (vertexAt (j .numbers) k)
+      (first-none (λ k. isHigh (vertexAt (j .numbers) k)) (countAll j) (not-found HighCoordinate (firstHigh j) (or-first high _ e₃)) k h);
+  flags = λ k h. ltb-false 1 (flagAt (j .numbers) k)
+      (first-none (λ k. ltb 1 (flagAt (j .numbers) k)) (countAll j) (not-found BadFlag (firstBadFlag j) (or-first flag _ e₄)) k h);
+  few = ltb-false 65535 (countV j) (not-refused (ltb 65535 (countV j)) (TooManyVertices (countV j)) (or-first (checkV j) _ e₅));
+  room = λ k h. ltb-false (getD ls k 0) (getD least k 0)
+      (first-none (λ k. ltb (getD ls k 0) (getD least k 0)) (length least) (not-found ShortBuffer (firstShort ls least) (or-second (checkV j) _ e₅)) k h);
+}
+  where
+    least : List ℕ
+    least = leastLengths j
+
+    high : Checked
+    high = refuseAt HighCoordinate (firstHigh j)
+
+    flag : Checked
+    flag = refuseAt BadFlag (firstBadFlag j)
+
+    short : Checked
+    short = refuseAt ShortBuffer (firstShort ls least)
+
+    e₂ : orNext (checkCounts j) (orNext high (orNext flag (orNext (checkV j) short))) ≡ passed
+    e₂ = or-second (checkNvp j) _ e₁
+
+    e₃ : orNext high (orNext flag (orNext (checkV j) short)) ≡ passed
+    e₃ = or-second (checkCounts j) _ e₂
+
+    e₄ : orNext flag (orNext (checkV j) short) ≡ passed
+    e₄ = or-second high _ e₃
+
+    e₅ : orNext (checkV j) short ≡ passed
+    e₅ = or-second flag _ e₄
+
+    n : (ltb (j .nvp) 3 || ltb 12 (j .nvp)) ≡ false
+    n = not-refused (ltb (j .nvp) 3 || ltb 12 (j .nvp)) (BadCornerLimit (j .nvp)) (or-first (checkNvp j) _ e₁)
+
+-- ---- the counts: what contour c adds to V and to T
+abbrev pub pointsIn : List ℕ → ℕ → ℕ
+pointsIn ls c = cond (leb 3 (getD ls c 0)) (getD ls c 0) 0
+
+abbrev pub trianglesIn : List ℕ → ℕ → ℕ
+trianglesIn ls c = cond (leb 3 (getD ls c 0)) (getD ls c 0 - 2) 0
+
+run-least : (f : ℕ → ℕ) (m i k : ℕ) → i ≤ k → k < i + m → f k ≤ run 0 _+_ f i m
+unfolding run
+run-least f zero i k h l = absurd (omega arith)
+run-least f (suc m) i k h l = ⊎-elim
+    (λ (a : i < k). omega (arith, run-least f m (suc i) k a (omega arith)))
+    (λ (a : k ≤ i). let e : k ≡ i = omega arith in rw e (omega arith)) (lt-or-le i k)
+
+run-mono : (f g : ℕ → ℕ) → ((k : ℕ) → f k ≤ g k) → (m i : ℕ) → run 0 _+_ f i m ≤ run 0 _+_ g i m
+unfolding run
+run-mono f g h zero i = omega arith
+run-mono f g h (suc m) i = omega (arith, h i, run-mono f g h m (suc i))
+
+-- no contour has more than V vertices, if it is not skipped
+pub length-small : (j : Job) (k : ℕ) → k < length (j .lengths) → 3 ≤ getD (j .lengths) k 0 → getD (j .lengths) k 0 ≤ countV j
+unfolding countV sumOver over
+length-small j k h l = let a = run-least (pointsIn (j .lengths)) (length (j .lengths) - 0) 0 k (omega arith) (omega arith) in rw (le-leb 3 (getD (j .lengths) k 0) l) at a
+
+pub T-below-V : (j : Job) → countT j ≤ countV j
+unfolding countT countV sumOver over
+T-below-V j = run-mono (trianglesIn (j .lengths)) (pointsIn (j .lengths)) (λ k. less (leb 3 (getD (j .lengths) k 0)) (getD (j .lengths) k 0)) (length (j .lengths) - 0) 0
+  where
+    less : (b : Bool) (n : ℕ) → cond b (n - 2) 0 ≤ cond b n 0
+    less true n = omega arith
+    less false n = omega arith

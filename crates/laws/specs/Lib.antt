@@ -1,0 +1,14 @@
+pub mod Lists
+pub mod Sides
+pub mod Ring
+pub mod Ears
+pub mod Weld
+pub mod Measures
+pub mod Merge
+pub mod Around
+pub mod Walks
+pub mod Removal
+pub mod Checks
+pub mod Contours
+pub mod Build
+pub mod Laws

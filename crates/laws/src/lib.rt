@@ -1,0 +1,1 @@
+// Theorems about the rules, in specs/. There is no code here.
