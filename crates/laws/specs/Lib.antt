@@ -12,3 +12,4 @@ pub mod Checks
 pub mod Contours
 pub mod Build
 pub mod Laws
+pub mod Fuel
