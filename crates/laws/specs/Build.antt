@@ -55,21 +55,24 @@ pub long-enough : (nvp : ℕ) (m : Mesh) → Sound nvp m → All Long (m .polygo
 long-enough nvp m s = all-imp (λ p (k : Good (Below (length (m .vertices))) nvp p). k .long) (s .good)
 
 module _ (f nvp i : ℕ) (m : Mesh) (log : List Removal) where
-  from-false : goes i m ≡ false → removeFrom (suc f) nvp i m log ≡ removeFrom f nvp (i + 1) m log
+  pub from-false : goes i m ≡ false → removeFrom (suc f) nvp i m log ≡ removeFrom f nvp (i + 1) m log
   unfolding removeFrom
   from-false e = rw (e, removeFrom) refl
 
-  from-gone : (u : Mesh) (r : Removal) → goes i m ≡ true → removeVertex nvp i m ≡ gone u r → removeFrom (suc f) nvp i m log ≡ removeFrom f nvp i u (log ++ (r ∷ []))
+  pub from-gone : (u : Mesh) (r : Removal) → goes i m ≡ true → removeVertex nvp i m ≡ gone u r → removeFrom (suc f) nvp i m log ≡ removeFrom f nvp i u (log ++ (r ∷ []))
   unfolding removeFrom
   from-gone u r e q = rw (e, removeFrom, q) refl
 
-  from-stuck : goes i m ≡ true → removeVertex nvp i m ≡ noEars → removeFrom (suc f) nvp i m log ≡ stuckAt i
+  pub from-stuck : goes i m ≡ true → removeVertex nvp i m ≡ noEars → removeFrom (suc f) nvp i m log ≡ stuckAt i
   unfolding removeFrom
   from-stuck e q = rw (e, removeFrom, q) refl
 
 pub goes-may : (i : ℕ) (m : Mesh) → goes i m ≡ true → Removable i (m .polygons)
 unfolding goes
 goes-may i m e = removable i (m .polygons) (and-right (eqb (getD (m .marks) i 0) 1) (canRemove i (m .polygons)) e)
+
+pub not-stuck : (i : ℕ) (m : Mesh) (log : List Removal) → stuckAt i ≡ removed m log → ⊥
+not-stuck i m log e = let z : _≡_ {A = ℕ} 0 1 = cc in omega arith
 
 pub removals : (f nvp i : ℕ) (z : ℤ) (t v : ℕ) (m : Mesh) (log : List Removal) (m′ : Mesh) (log′ : List Removal) → 3 ≤ nvp → t < 2 ^ 28 → i + f ≡ length (m .vertices)
     → Balanced nvp z t v m log → removeFrom f nvp i m log ≡ removed m′ log′ → Balanced nvp z t v m′ log′
@@ -85,12 +88,9 @@ removals (suc f) nvp i z t v m log m′ log′ three few e b q =
                 let c = corners-removed nvp i m u r three (long-enough nvp m (b .sound)) (goes-may i m k) p in
                 removals f nvp i z t v u (log ++ (r ∷ [])) m′ log′ three few (omega (arith, s .vertices)) (balanced-step nvp z t v m u log r b s (c .spares))
                 (sym (from-gone f nvp i m log u r k p) ∙ q)
-            | noEars ↦ λ p. absurd (no i m′ log′ (sym (from-stuck f nvp i m log k p) ∙ q))
+            | noEars ↦ λ p. absurd (not-stuck i m′ log′ (sym (from-stuck f nvp i m log k p) ∙ q))
           ]) refl
     ]) refl
-  where
-    no : (i : ℕ) (m : Mesh) (log : List Removal) → stuckAt i ≡ removed m log → ⊥
-    no i m log e = let z : _≡_ {A = ℕ} 0 1 = cc in omega arith
 
 -- ---- the whole
 no-mesh : (nvp : ℕ) → Sound nvp noMesh
@@ -110,7 +110,7 @@ all-added j ls m p e =
 
 -- the goal, where r is what the rest comes to
 module _ (j : Job) (m : Mesh) (ls : List (List ℕ)) (log : List Removal) where
-  no-refusal : (r : Refusal) → refused r ≡ built m ls log → ⊥
+  pub no-refusal : (r : Refusal) → refused r ≡ built m ls log → ⊥
   no-refusal r e = let z : _≡_ {A = ℕ} 0 1 = cc in omega arith
 
   after-removals : (ns : List ℕ) (p : Passed j ns) (u : Mesh) → Balanced (j .nvp) (jobArea j) (countT j) (countV j) u [] → (r : Removals) → removeAll (j .nvp) u ≡ r → linked j r ≡ built m ls log → Balanced (j .nvp) (jobArea j) (countT j) (countV j) m log

@@ -3,10 +3,10 @@ use Prim.Native.Nat.{ℕ, zero, suc, _+_, _-_, _≤_, _<_}
 use native.Mathlib.Omega.{arith}
 use mathlib.Core.Path.{_≡_, refl}
 use mathlib.Core.Bool.{Bool, true, false, not, cond, _||_}
-use mathlib.Core.Logic.{⊎-elim}
+use mathlib.Core.Logic.{_⊎_, inl, inr, ⊎-elim}
 use mathlib.Core.List.{List}
 use lib.Dec.{leb, ltb}
-use borrow.Author.Tests.{ltb-false, not-false, le-leb}
+use borrow.Author.Tests.{ltb-false, not-false, le-leb, lt-leb}
 use lib.ListN.{length, getD}
 use Rattle.ints.specs.Bools.{or-left, or-right}
 use Rattle.mem.specs.Loops.{over, run}
@@ -142,10 +142,34 @@ pub length-small : (j : Job) (k : ℕ) → k < length (j .lengths) → 3 ≤ get
 unfolding countV sumOver over
 length-small j k h l = let a = run-least (pointsIn (j .lengths)) (length (j .lengths) - 0) 0 k (omega arith) (omega arith) in rw (le-leb 3 (getD (j .lengths) k 0) l) at a
 
-pub T-below-V : (j : Job) → countT j ≤ countV j
+-- T is 0, or smaller than V by two at least
+run-two : (f g : ℕ → ℕ) → ((k : ℕ) → (f k ≡ 0) ⊎ (f k + 2 ≤ g k)) → ((k : ℕ) → f k ≤ g k) → (m i : ℕ)
+    → (run 0 _+_ f i m ≡ 0) ⊎ (run 0 _+_ f i m + 2 ≤ run 0 _+_ g i m)
+unfolding run
+run-two f g two le zero i = inl refl
+run-two f g two le (suc m) i =
+    let h = run-mono f g le m (suc i) in
+    ⊎-elim
+    (λ (a : f i ≡ 0). ⊎-elim
+    (λ (b : run 0 _+_ f (suc i) m ≡ 0). inl (omega arith))
+    (λ (b : run 0 _+_ f (suc i) m + 2 ≤ run 0 _+_ g (suc i) m). inr (omega arith))
+    (run-two f g two le m (suc i)))
+    (λ (a : f i + 2 ≤ g i). inr (omega arith))
+    (two i)
+
+pub T-far-below-V : (j : Job) → (countT j ≡ 0) ⊎ (countT j + 2 ≤ countV j)
 unfolding countT countV sumOver over
-T-below-V j = run-mono (trianglesIn (j .lengths)) (pointsIn (j .lengths)) (λ k. less (leb 3 (getD (j .lengths) k 0)) (getD (j .lengths) k 0)) (length (j .lengths) - 0) 0
+T-far-below-V j = run-two (trianglesIn (j .lengths)) (pointsIn (j .lengths)) (λ k. two (getD (j .lengths) k 0)) (λ k. less (leb 3 (getD (j .lengths) k 0)) (getD (j .lengths) k 0)) (length (j .lengths) - 0) 0
   where
+    two : (n : ℕ) → (cond (leb 3 n) (n - 2) 0 ≡ 0) ⊎ (cond (leb 3 n) (n - 2) 0 + 2 ≤ cond (leb 3 n) n 0)
+    two n = ⊎-elim
+        (λ (h : n < 3). inl (rw (lt-leb 3 n h) refl))
+        (λ (h : 3 ≤ n). inr (rw (le-leb 3 n h) (omega arith)))
+        (lt-or-le n 3)
+
     less : (b : Bool) (n : ℕ) → cond b (n - 2) 0 ≤ cond b n 0
     less true n = omega arith
     less false n = omega arith
+
+pub T-below-V : (j : Job) → countT j ≤ countV j
+T-below-V j = ⊎-elim (λ (e : countT j ≡ 0). omega arith) (λ (h : countT j + 2 ≤ countV j). omega arith) (T-far-below-V j)

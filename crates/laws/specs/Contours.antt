@@ -198,15 +198,15 @@ grown-none : (nvp : ℕ) (m : Mesh) → Sound nvp m → Grown nvp (pos 0) 0 0 m 
 grown-none nvp m s = record { areas = sym (+ℤ-idr (meshArea m)); spares = omega arith; vertices = omega arith; sound = s }
 
 module _ (f : ℕ) (j : Job) (c first : ℕ) (m : Mesh) where
-  add-skip : ltb (getD (j .lengths) c 0) 3 ≡ true → addFrom (suc f) j c first m ≡ addFrom f j (c + 1) (first + getD (j .lengths) c 0) m
+  pub add-skip : ltb (getD (j .lengths) c 0) 3 ≡ true → addFrom (suc f) j c first m ≡ addFrom f j (c + 1) (first + getD (j .lengths) c 0) m
   unfolding addFrom
   add-skip e = rw (e, addFrom) refl
 
-  add-stuck : (i : ℕ) → ltb (getD (j .lengths) c 0) 3 ≡ false → triangulate (map onPlane (contourVertices (j .numbers) first (getD (j .lengths) c 0))) ≡ stuck i → addFrom (suc f) j c first m ≡ noEarIn c i
+  pub add-stuck : (i : ℕ) → ltb (getD (j .lengths) c 0) 3 ≡ false → triangulate (map onPlane (contourVertices (j .numbers) first (getD (j .lengths) c 0))) ≡ stuck i → addFrom (suc f) j c first m ≡ noEarIn c i
   unfolding addFrom
   add-stuck i e r = rw (e, addFrom, r) refl
 
-  add-done : (ts : List (List ℕ)) → ltb (getD (j .lengths) c 0) 3 ≡ false → triangulate (map onPlane (contourVertices (j .numbers) first (getD (j .lengths) c 0))) ≡ done ts
+  pub add-done : (ts : List (List ℕ)) → ltb (getD (j .lengths) c 0) 3 ≡ false → triangulate (map onPlane (contourVertices (j .numbers) first (getD (j .lengths) c 0))) ≡ done ts
       → addFrom (suc f) j c first m ≡ addFrom f j (c + 1) (first + getD (j .lengths) c 0)
       (addContour weldHeight (j .nvp) (getD (j .regions) c 0) (getD (j .codes) c 0) (contourVertices (j .numbers) first (getD (j .lengths) c 0)) (contourFlags (j .numbers) first (getD (j .lengths) c 0)) ts m)
   unfolding addFrom

@@ -25,21 +25,27 @@ use Rattle.rules.specs.declared.Vertex.{Vertex}
 use Rattle.rules.specs.declared.Side.{Side}
 use Rattle.rules.specs.declared.Pair.{Pair}
 use Rattle.laws.specs.Lists.{swap-length, length-without}
-use Rattle.laws.specs.Ears.{length-cut}
+use Rattle.laws.specs.Ears.{length-cut, cut-true, cut-false}
 use Rattle.laws.specs.Walks.{one-left}
 use Rattle.laws.specs.Removal.{removal-fills}
+use Rattle.laws.specs.Contours.{add-skip, add-stuck, add-done}
+use Rattle.laws.specs.Build.{from-false, from-gone, from-stuck}
 
--- ---- R2
+-- ---- R2: a cut takes one word away
 pub cutting-turns : (ps : List Point) (ws : List ℕ) (out : List (List ℕ)) → Cutting ps ws out
 unfolding cutAll
-cutting-turns ps ws out = record {
-  cut = λ h e.
-      let n = length-cut ps (findEar ps ws .at) ws (omega arith) in
-      let p : length ws - 3 ≡ suc (length (cutEar ps (findEar ps ws .at) ws) - 3) = omega arith in
-      rw (p, cutAll, e);
-  none = λ h e. let p : length ws - 3 ≡ suc (length ws - 1 - 3) = omega arith in rw (p, cutAll, e);
-  last = λ h. let p : length ws - 3 ≡ 0 = omega arith in rw (p, cutAll);
-}
+cutting-turns ps ws out =
+    let i = findEar ps ws .at in
+    record {
+      cut = λ h e.
+          let n = length-cut ps i ws (omega arith) in
+          let p : length ws - 3 ≡ suc (length (cutEar ps i ws) - 3) = omega arith in
+          ap (λ (f : ℕ). cutAll f ps ws out) p ∙ cut-true (length (cutEar ps i ws) - 3) ps ws out e;
+      none = λ h e.
+          let p : length ws - 3 ≡ suc (length ws - 1 - 3) = omega arith in
+          ap (λ (f : ℕ). cutAll f ps ws out) p ∙ cut-false (length ws - 1 - 3) ps ws out e;
+      last = λ h. let p : length ws - 3 ≡ 0 = omega arith in ap (λ (f : ℕ). cutAll f ps ws out) p;
+    }
 
 -- ---- R4
 some-pair : (vs : List Vertex) (nvp : ℕ) (ps : List Polygon) → 0 < bestPair vs nvp ps .length → 0 < length ps
@@ -235,26 +241,34 @@ length-removed nvp i m t r h q = ap (λ (u : Mesh). length (u .vertices)) (remov
 
 pub trying-turns : (nvp i : ℕ) (m : Mesh) (log : List Removal) → Trying nvp i m log
 unfolding removeFrom
-trying-turns nvp i m log = record {
-  stays = λ h e. let p : length (m .vertices) - i ≡ suc (length (m .vertices) - (i + 1)) = omega arith in rw (p, removeFrom, e);
-  leaves = λ h e t r q.
-      let n = length-removed nvp i m t r h q in
-      let p : length (m .vertices) - i ≡ suc (length (t .vertices) - i) = omega arith in
-      rw (p, removeFrom, e, q);
-  stuck = λ h e q. let p : length (m .vertices) - i ≡ suc (length (m .vertices) - 1 - i) = omega arith in rw (p, removeFrom, e, q);
-  end = λ h. let p : length (m .vertices) - i ≡ 0 = omega arith in rw (p, removeFrom);
-}
+trying-turns nvp i m log =
+    let n = length (m .vertices) in
+    record {
+      stays = λ h e.
+          let p : n - i ≡ suc (n - (i + 1)) = omega arith in
+          ap (λ (f : ℕ). removeFrom f nvp i m log) p ∙ from-false (n - (i + 1)) nvp i m log e;
+      leaves = λ h e t r q.
+          let l = length-removed nvp i m t r h q in
+          let p : n - i ≡ suc (length (t .vertices) - i) = omega arith in
+          ap (λ (f : ℕ). removeFrom f nvp i m log) p ∙ from-gone (length (t .vertices) - i) nvp i m log t r e q;
+      stuck = λ h e q.
+          let p : n - i ≡ suc (n - 1 - i) = omega arith in
+          ap (λ (f : ℕ). removeFrom f nvp i m log) p ∙ from-stuck (n - 1 - i) nvp i m log e q;
+      end = λ h. let p : n - i ≡ 0 = omega arith in ap (λ (f : ℕ). removeFrom f nvp i m log) p;
+    }
 
 -- ---- the contours
 pub adding-turns : (j : Job) (c first : ℕ) (m : Mesh) → Adding j c first m (getD (j .lengths) c 0)
 unfolding addFrom
 adding-turns j c first m =
     let n = getD (j .lengths) c 0 in
+    let l = length (j .lengths) in
+    let less : c < l → l - c ≡ suc (l - (c + 1)) = λ (h : c < l). omega arith in
     record {
-      skip = λ h k. let p : length (j .lengths) - c ≡ suc (length (j .lengths) - (c + 1)) = omega arith in rw (p, addFrom, lt-ltb n 3 k);
-      add = λ h k ts e. let p : length (j .lengths) - c ≡ suc (length (j .lengths) - (c + 1)) = omega arith in rw (p, addFrom, le-ltb n 3 k, e);
-      none = λ h k i e. let p : length (j .lengths) - c ≡ suc (length (j .lengths) - (c + 1)) = omega arith in rw (p, addFrom, le-ltb n 3 k, e);
-      end = λ h. let p : length (j .lengths) - c ≡ 0 = omega arith in rw (p, addFrom);
+      skip = λ h k. ap (λ (f : ℕ). addFrom f j c first m) (less h) ∙ add-skip (l - (c + 1)) j c first m (lt-ltb n 3 k);
+      add = λ h k ts e. ap (λ (f : ℕ). addFrom f j c first m) (less h) ∙ add-done (l - (c + 1)) j c first m ts (le-ltb n 3 k) e;
+      none = λ h k i e. ap (λ (f : ℕ). addFrom f j c first m) (less h) ∙ add-stuck (l - (c + 1)) j c first m i (le-ltb n 3 k) e;
+      end = λ h. let p : l - c ≡ 0 = omega arith in ap (λ (f : ℕ). addFrom f j c first m) p;
     }
 
 -- ---- all of it

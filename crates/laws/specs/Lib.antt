@@ -13,3 +13,9 @@ pub mod Contours
 pub mod Build
 pub mod Laws
 pub mod Fuel
+pub mod Sentences
+pub mod Distance
+pub mod Reached
+pub mod Links
+pub mod Widths
+pub mod Exits

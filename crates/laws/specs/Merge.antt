@@ -1,7 +1,7 @@
 -- R4: a join cancels a side and its opposite, so merging keeps the area and the corners over two; the pair that is joined is in range. Assumes nothing.
 use Prim.Native.Nat.{ℕ, zero, suc, _+_, _-_, _%_, _≤_, _<_}
 use native.Mathlib.Omega.{arith}
-use native.Mathlib.Nat.{mod-eq-of-lt, mod-eq-sub-mod}
+use native.Mathlib.Nat.{mod-eq-of-lt, add-zero}
 use mathlib.Core.Path.{_≡_, refl, sym, _∙_, ap, ap₂}
 use mathlib.Core.Bool.{Bool, true, false, cond, _&&_}
 use mathlib.Core.Logic.{⊎-elim}
@@ -30,17 +30,9 @@ use Rattle.rules.specs.Areas.{sumOf, pointsOf, polygonArea}
 use Rattle.laws.specs.Measures.{areaOf, spareOf, sparesIn}
 use Rattle.laws.specs.Lists.{All, none, more, all-imp, all-append, all-at, all-perm, all-take, all-drop, all-tail, all-left, map-append, set-perm, swap-perm, sum-perm, total, total-perm}
 use Rattle.laws.specs.Sides.{area-join, area-rotate}
-use Rattle.laws.specs.Ring.{next-in, next-out}
+use Rattle.laws.specs.Ring.{mod-once, next-remainder}
 
 -- ---- a ring from past one of its sides on
-pub mod-once : (x n : ℕ) → n ≤ x → x < n + n → x % n ≡ x - n
-mod-once x n h k = mod-eq-sub-mod h ∙ mod-eq-of-lt (omega arith)
-
-mod-next : (e n : ℕ) → e < n → (e + 1 + 0) % n ≡ next e n
-mod-next e n h = ⊎-elim
-    (λ (k : e + 1 < n). let q : e + 1 + 0 ≡ e + 1 = omega arith in rw (next-in e n k, q) (mod-eq-of-lt k))
-    (λ (k : n ≤ e + 1). rw (next-out e n k) (mod-once (e + 1 + 0) n (omega arith) (omega arith) ∙ omega arith)) (lt-or-le (e + 1) n)
-
 ring-at : (cs : List ℕ) (e k : ℕ) → e < length cs → k < length cs → getD cs ((e + 1 + k) % length cs) 0 ≡ getD (drop (e + 1) cs ++ take (e + 1) cs) k 0
 ring-at cs e k h i = ⊎-elim
     (λ (a : e + 1 + k < length cs). let d = length-drop (e + 1) cs in
@@ -79,7 +71,7 @@ cons-of (x ∷ l) a h e = ap (λ (y : ℕ). y ∷ l) e
 
 first-past : (cs : List ℕ) (e : ℕ) → e < length cs → 2 ≤ length cs → getD (pastSide cs e) 0 0 ≡ getD cs (next e (length cs)) 0
 unfolding pastSide
-first-past cs e h k = getD-tab (λ k. getD cs ((e + 1 + k) % length cs) 0) (length cs - 1) 0 0 (omega arith) ∙ ap (λ (j : ℕ). getD cs j 0) (mod-next e (length cs) h)
+first-past cs e h k = getD-tab (λ k. getD cs ((e + 1 + k) % length cs) 0) (length cs - 1) 0 0 (omega arith) ∙ ap (λ (j : ℕ). getD cs j 0) (ap (λ (k : ℕ). k % length cs) (add-zero (e + 1)) ∙ sym (next-remainder e (length cs) h))
 
 -- it begins with the side's end
 pub past-first : (cs : List ℕ) (e : ℕ) → e < length cs → 2 ≤ length cs → pastSide cs e ≡ getD cs (next e (length cs)) 0 ∷ drop 1 (pastSide cs e)

@@ -1,17 +1,19 @@
--- Places in a ring: the corner that goes when an ear is cut, and the list turned so that it begins elsewhere. Assumes nothing.
-use Prim.Native.Nat.{ℕ, zero, suc, _+_, _-_, _≤_, _<_}
+-- Places in a ring: the next one and the one before; and the corner that goes when an ear is cut. Assumes nothing.
+use Prim.Native.Nat.{ℕ, zero, suc, _+_, _-_, _%_, _≤_, _<_}
+use native.Mathlib.Nat.{mod-eq-of-lt, mod-eq-sub-mod}
 use native.Mathlib.Omega.{arith}
 use mathlib.Core.Path.{_≡_, refl, sym, _∙_, ap}
 use mathlib.Core.Logic.{⊎-elim}
 use mathlib.Core.List.{List, [], _∷_, _++_, append-assoc, append-nil}
-use borrow.Author.Tests.{lt-ltb, le-ltb}
+use borrow.Author.Tests.{lt-ltb, le-ltb, le-leb, lt-leb}
 use lib.ListN.{length, take, drop, getD, drop-of-length-le}
 use lib.Seq.{take-suc, drop-cons, split-at}
 use lib.IntN.{ℤ, _+ℤ_}
 use Rattle.mem.specs.Cases.{lt-or-le}
 use Rattle.rules.specs.declared.Point.{Point}
 use Rattle.rules.specs.Plane.{D, area}
-use Rattle.rules.specs.Lists.{next, without}
+use Rattle.rules.specs.Lists.{next, prev, without}
+use Rattle.rules.specs.Sentences.{NextIsRemainder, PrevIsRemainder}
 use Rattle.laws.specs.Sides.{area-rotate, area-ear}
 
 pub next-in : (i n : ℕ) → i + 1 < n → next i n ≡ i + 1
@@ -25,6 +27,31 @@ next-out i n h = rw (le-ltb (i + 1) n h)
 pub next-below : (i n : ℕ) → 0 < n → next i n < n
 next-below i n h = ⊎-elim (λ (k : i + 1 < n). rw (next-in i n k) k) (λ (k : n ≤ i + 1). rw (next-out i n k) h) (lt-or-le (i + 1) n)
 
+-- ---- places as remainders
+pub mod-once : (x n : ℕ) → n ≤ x → x < n + n → x % n ≡ x - n
+mod-once x n h k = mod-eq-sub-mod h ∙ mod-eq-of-lt (omega arith)
+
+pub next-remainder : NextIsRemainder
+next-remainder i n h = ⊎-elim
+    (λ (k : i + 1 < n). next-in i n k ∙ sym (mod-eq-of-lt k))
+    (λ (k : n ≤ i + 1). next-out i n k ∙ sym (mod-once (i + 1) n k (omega arith) ∙ omega arith))
+    (lt-or-le (i + 1) n)
+
+prev-in : (i n : ℕ) → 1 ≤ i → prev i n ≡ i - 1
+unfolding prev
+prev-in i n h = rw (le-leb 1 i h)
+
+prev-out : (i n : ℕ) → i < 1 → prev i n ≡ n - 1
+unfolding prev
+prev-out i n h = rw (lt-leb 1 i h)
+
+pub prev-remainder : PrevIsRemainder
+prev-remainder i n h = ⊎-elim
+    (λ (k : i < 1). let e : i + n - 1 ≡ n - 1 = omega arith in rw (prev-out i n k, e) (sym (mod-eq-of-lt (omega arith))))
+    (λ (k : 1 ≤ i). prev-in i n k ∙ sym (mod-once (i + n - 1) n (omega arith) (omega arith) ∙ omega arith))
+    (lt-or-le i 1)
+
+-- ---- a list around a place
 module _ {A : Type 0} where
   three : (l : List A) (i : ℕ) (d : A) → i + 2 < length l → l ≡ take i l ++ (getD l i d ∷ (getD l (i + 1) d ∷ (getD l (i + 2) d ∷ drop (i + 3) l)))
   three l i d h =

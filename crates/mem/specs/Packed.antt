@@ -2,16 +2,16 @@
 -- `exit ≡ splice entry o (packed enc (f (blocks dec entry o k n)))`: f is of lists alone, and every word is fixed.
 -- Assumes nothing.
 use mathlib.Core.Path.{_≡_, refl, sym, ap, _∙_}
-use mathlib.Core.List.{List, [], _∷_, _++_, append-assoc}
+use mathlib.Core.List.{List, [], _∷_, _++_, map, append-assoc}
 use mathlib.Core.Logic.{⊎-elim, _≢_}
 use Prim.Native.Nat.{ℕ, zero, suc, _+_, _-_, _*_, _≤_, _<_}
 use native.Mathlib.Nat.{le-refl, zero-add, suc-mul, zero-mul}
 use native.Mathlib.Omega.{arith}
 use lib.ListN.{length, take, drop, getD, set, length-append, List·getD-append, List·getD-eq-default, replicate}
-use lib.Seq.{ext-getD, getD-set-same, getD-set-other, set-out, getD-take, drop-drop, take-at, drop-at, getD-append-add}
+use lib.Seq.{ext-getD, getD-set-same, getD-set-other, set-out, getD-take, getD-drop, drop-drop, take-at, drop-at, getD-append-add}
 use Rattle.mem.specs.Slice.{view, splice, splice-nil, splice-inside, view-same, view-view, length-splice}
 use Rattle.mem.specs.Cases.{lt-or-le, eq-or-ne}
-use Rattle.mem.specs.Tab.{blocks, length-blocks, getD-blocks}
+use Rattle.mem.specs.Tab.{tab, length-tab, getD-tab, blocks, length-blocks, getD-blocks}
 use Rattle.mem.specs.Loops.{block-fits}
 
 -- ---- what holds of every element of a list, and of what stands past its end
@@ -52,6 +52,17 @@ module _ {B : Type 0} (P : B → Type 0) (d : B) where
   every-take (b ∷ bs) (suc n) h zero = h 0
   every-take (b ∷ bs) (suc n) h (suc i) = every-take bs n (λ j. h (suc j)) i
 
+  pub every-drop : (n : ℕ) (bs : List B) → Every bs → Every (drop n bs)
+  unfolding Every
+  every-drop n bs h i = rw (getD-drop n bs i d) (h (n + i))
+
+  pub every-tab : (f : ℕ → B) (n : ℕ) → P d → ((i : ℕ) → i < n → P (f i)) → Every (tab f n)
+  unfolding Every
+  every-tab f n p h i = ⊎-elim
+      (λ (a : i < n). rw (getD-tab f n i d a) (h i a))
+      (λ (a : n ≤ i). rw (List·getD-eq-default (tab f n) d {n = i} (rw (length-tab f n) a)) p)
+      (lt-or-le i n)
+
   pub every-append : (xs ys : List B) → Every xs → Every ys → Every (xs ++ ys)
   unfolding Every
   every-append [] ys h k i = k i
@@ -63,6 +74,13 @@ module _ {B : Type 0} (P : B → Type 0) (d : B) where
   every-same zero b h k i = h
   every-same (suc n) b h k zero = k
   every-same (suc n) b h k (suc i) = every-same n b h k i
+
+pub every-map : {A B : Type 0} (Q : A → Type 0) (e : A) (P : B → Type 0) (d : B) (f : A → B) (l : List A) → P d → ((a : A) → Q a → P (f a))
+    → Every Q e l → Every P d (map f l)
+unfolding Every
+every-map Q e P d f [] p h k i = p
+every-map Q e P d f (a ∷ l) p h k zero = h a (k 0)
+every-map Q e P d f (a ∷ l) p h k (suc i) = every-map Q e P d f l p h (λ n. k (suc n)) i
 
 pub every-imp : {B : Type 0} (P Q : B → Type 0) (d : B) (bs : List B) → ((b : B) → P b → Q b) → Every P d bs → Every Q d bs
 unfolding Every
@@ -105,7 +123,7 @@ module _ {B : Type 0} (enc : B → List ℕ) where
   packed-append (x ∷ xs) ys = rw (packed-append xs ys) (sym (append-assoc (enc x) (packed xs) (packed ys)))
 
   -- each thing that fits has k words
-  module _ (dec : List ℕ → B) (k : ℕ) (Fit : B → Type 0) (d : B) (sized : (b : B) → Fit b → length (enc b) ≡ k) where
+  module _ (k : ℕ) (Fit : B → Type 0) (d : B) (sized : (b : B) → Fit b → length (enc b) ≡ k) where
     tail : (b : B) (bs : List B) → Every Fit d (b ∷ bs) → Every Fit d bs
     unfolding Every
     tail b bs h i = h (suc i)
@@ -139,23 +157,13 @@ module _ {B : Type 0} (enc : B → List ℕ) where
         rw (e, ← drop-drop (i * k) k (enc a ++ packed bs), drop-at (enc a) (packed bs) k (sized a (head a bs h)))
         (packed-view bs i (tail a bs h) (omega arith))
 
-    module _ (back : (b : B) → Fit b → dec (enc b) ≡ b) (w : List ℕ) (o : ℕ) (bs : List B) (all : Every Fit d bs) (fits : o + length bs * k ≤ length w) where
-      -- what is stored is what is loaded
-      pub unpacked : blocks dec (splice w o (packed bs)) o k (length bs) ≡ bs
-      unpacked =
-          ext-getD d (blocks dec (splice w o (packed bs)) o k (length bs)) bs (length-blocks dec (splice w o (packed bs)) o k (length bs))
-          (λ i a. at i (rw (length-blocks dec (splice w o (packed bs)) o k (length bs)) at a))
-        where
-          long : length (packed bs) ≡ length bs * k
-          long = length-packed bs all
-
-          at : (i : ℕ) → i < length bs → getD (blocks dec (splice w o (packed bs)) o k (length bs)) i d ≡ getD bs i d
-          at i a =
-              getD-blocks dec (splice w o (packed bs)) o k (length bs) i d a
-              ∙ ap dec
-              (view-part w o (i * k) k (packed bs) (omega (arith, long, block-fits i (length bs) k (length bs * k) a (le-refl (length bs * k)))) (omega (arith, long))
-              ∙ packed-view bs i all a)
-              ∙ back (getD bs i d) (every-at Fit d bs all i)
+    module _ (w : List ℕ) (o : ℕ) (bs : List B) (all : Every Fit d bs) (fits : o + length bs * k ≤ length w) where
+      -- the words of thing i
+      pub packed-at : (i : ℕ) → i < length bs → view (splice w o (packed bs)) (o + i * k) k ≡ enc (getD bs i d)
+      packed-at i a =
+          let long = length-packed bs all in
+          view-part w o (i * k) k (packed bs) (omega (arith, block-fits i (length bs) k (length bs * k) a (le-refl (length bs * k)))) (omega arith)
+          ∙ packed-view bs i all a
 
       -- thing i is written anew
       pub packed-put : (i : ℕ) (b : B) → Fit b → i < length bs → splice (splice w o (packed bs)) (o + i * k) (enc b) ≡ splice w o (packed (set bs i b))
@@ -163,3 +171,15 @@ module _ {B : Type 0} (enc : B → List ℕ) where
           splice-inside w o (i * k) (packed bs) (enc b)
           (omega (arith, sized b f, length-packed bs all, block-fits i (length bs) k (length bs * k) a (le-refl (length bs * k))))
           ∙ ap (splice w o) (packed-set bs i b all f a)
+
+      -- what is stored is what is loaded
+      pub unpacked : (dec : List ℕ → B) → ((b : B) → Fit b → dec (enc b) ≡ b) → blocks dec (splice w o (packed bs)) o k (length bs) ≡ bs
+      unpacked dec back =
+          ext-getD d (blocks dec (splice w o (packed bs)) o k (length bs)) bs (length-blocks dec (splice w o (packed bs)) o k (length bs))
+          (λ i a. at i (rw (length-blocks dec (splice w o (packed bs)) o k (length bs)) at a))
+        where
+          at : (i : ℕ) → i < length bs → getD (blocks dec (splice w o (packed bs)) o k (length bs)) i d ≡ getD bs i d
+          at i a =
+              getD-blocks dec (splice w o (packed bs)) o k (length bs) i d a
+              ∙ ap dec (packed-at i a)
+              ∙ back (getD bs i d) (every-at Fit d bs all i)
