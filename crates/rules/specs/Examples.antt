@@ -55,6 +55,14 @@ seen (built m ls log) = record {
   removals = log;
 }
 
+-- how a build ends: the reply's three numbers, and what the buffers hold
+pub record Ended : Type 0 where
+  pub reply : List ℕ
+  pub buffers : Lent
+
+unfoldable pub ended : Job → Lent → Ended
+ended j b = record { reply = numbersOf (replyOf (outcome j b)); buffers = exits j b }
+
 -- buffers with so many words more than the least, each of them 9
 unfoldable pub room : ℕ → Job → Lent
 room more j =
@@ -79,16 +87,18 @@ pub data Example : Type 0 where
 
 unfoldable pub Holds : Example → Type 0
 Holds (builds j s) = seen (outcome j (room 0 j)) ≡ s
-Holds (leaves j b r e) = (numbersOf (replyOf (outcome j b)) ≡ r) × (exits j b ≡ e)
+Holds (leaves j b r e) = ended j b ≡ record { reply = r; buffers = e }
 Holds (welds vs ns) = weldAll weldHeight vs [] (record { vertices = []; marks = []; numbers = [] }) .numbers ≡ ns
-Holds (keys a b s k) = (squared a b ≡ s) × (keyOf a b ≡ k)
+Holds (keys a b s k) = squared a b ∷ keyOf a b ∷ [] ≡ s ∷ k ∷ []
 Holds (stands x z k) = bucket x z ≡ k
 Holds (checks j c) = checkV j ≡ c
 Holds (measures c x) = millimetres c ≡ x
 
-unfoldable pub AllHold : List Example → Type 0
-AllHold [] = Unit
-AllHold (e ∷ es) = Holds e × AllHold es
+-- each of a list of examples holds
+infixr 20 _&_
+pub data AllHold : List Example → Type 0 where
+  end : AllHold []
+  _&_ : {e : Example} {es : List Example} → Holds e → AllHold es → AllHold (e ∷ es)
 
 -- ---- the table's words
 
@@ -388,175 +398,10 @@ examples =
     measures (Millimetres unit) unit ∷
     []
 
--- each example holds
+-- each row holds
 pub all-hold : AllHold examples
-unfolding rules numbersOf seen room Holds AllHold mul ofBits
-all-hold = (
-  refl,
-  (
-    refl,
-    (
-      refl,
-      (
-        refl,
-        (
-          refl,
-          (
-            refl,
-            (
-              refl,
-              (
-                refl,
-                (
-                  refl,
-                  (
-                    refl,
-                    (
-                      (refl, refl),
-                      (
-                        refl,
-                        (
-                          refl,
-                          (
-                            refl,
-                            (
-                              refl,
-                              (
-                                refl,
-                                (
-                                  (refl, refl),
-                                  (
-                                    (
-                                      refl,
-                                      refl,
-                                    ),
-                                    (
-                                      (refl, refl),
-                                      (
-                                        (refl, refl),
-                                        (
-                                          refl,
-                                          (
-                                            refl,
-                                            (
-                                              refl,
-                                              (
-                                                refl,
-                                                (
-                                                  refl,
-                                                  (
-                                                    refl,
-                                                    (
-                                                      refl,
-                                                      (
-                                                        refl,
-                                                        (
-                                                          refl,
-                                                          (
-                                                            refl,
-                                                            (
-                                                              refl,
-                                                              (
-                                                                refl,
-                                                                (
-                                                                  refl,
-                                                                  (
-                                                                    refl,
-                                                                    (
-                                                                      refl,
-                                                                      (
-                                                                        refl,
-                                                                        (
-                                                                          refl,
-                                                                          (
-                                                                            refl,
-                                                                            (
-                                                                              refl,
-                                                                              (
-                                                                                refl,
-                                                                                (
-                                                                                  refl,
-                                                                                  (
-                                                                                    refl,
-                                                                                    (
-                                                                                      refl,
-                                                                                      (
-                                                                                        refl,
-                                                                                        (
-                                                                                          refl,
-                                                                                          (
-                                                                                            refl,
-                                                                                            (
-                                                                                              refl,
-                                                                                              (
-                                                                                                refl,
-                                                                                                (
-                                                                                                  refl,
-                                                                                                  (
-                                                                                                    refl,
-                                                                                                    (
-                                                                                                      refl,
-                                                                                                      (
-                                                                                                        refl,
-                                                                                                        (
-                                                                                                          refl,
-                                                                                                          (
-                                                                                                            refl,
-                                                                                                            (
-                                                                                                              refl,
-                                                                                                              tt,
-                                                                                                            ),
-                                                                                                          ),
-                                                                                                        ),
-                                                                                                      ),
-                                                                                                    ),
-                                                                                                  ),
-                                                                                                ),
-                                                                                              ),
-                                                                                            ),
-                                                                                          ),
-                                                                                        ),
-                                                                                      ),
-                                                                                    ),
-                                                                                  ),
-                                                                                ),
-                                                                              ),
-                                                                            ),
-                                                                          ),
-                                                                        ),
-                                                                      ),
-                                                                    ),
-                                                                  ),
-                                                                ),
-                                                              ),
-                                                            ),
-                                                          ),
-                                                        ),
-                                                      ),
-                                                    ),
-                                                  ),
-                                                ),
-                                              ),
-                                            ),
-                                          ),
-                                        ),
-                                      ),
-                                    ),
-                                  ),
-                                ),
-                              ),
-                            ),
-                          ),
-                        ),
-                      ),
-                    ),
-                  ),
-                ),
-              ),
-            ),
-          ),
-        ),
-      ),
-    ),
-  ),
-)
+unfolding rules numbersOf seen ended room Holds mul ofBits
+all-hold =
+    refl & refl & refl & refl & refl & refl & refl & refl & refl & refl & refl & refl & refl & refl & refl & refl & refl & refl & refl & refl &
+    refl & refl & refl & refl & refl & refl & refl & refl & refl & refl & refl & refl & refl & refl & refl & refl & refl & refl & refl & refl &
+    refl & refl & refl & refl & refl & refl & refl & refl & refl & refl & refl & refl & refl & refl & refl & end
