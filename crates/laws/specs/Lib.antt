@@ -1,21 +1,27 @@
+-- What is proved of the rules. Each file opens with what it shows; the statements are those of crate `rules`.
+--
+-- lists, sides and rings, and what is measured
 pub mod Lists
 pub mod Sides
 pub mod Ring
+pub mod Measures
+-- R2 to R5, one file a rule: areas, corners and ranges
 pub mod Ears
 pub mod Weld
-pub mod Measures
 pub mod Merge
 pub mod Around
 pub mod Walks
 pub mod Removal
+-- the checks, the contours, the whole build; R6 and R7
 pub mod Checks
 pub mod Contours
 pub mod Build
-pub mod Laws
-pub mod Fuel
-pub mod Sentences
-pub mod Distance
 pub mod Reached
 pub mod Links
+-- the statements of `rules`: Areas, Fuel, Widths, Exits, Sentences, Distance
+pub mod Laws
+pub mod Fuel
 pub mod Widths
 pub mod Exits
+pub mod Sentences
+pub mod Distance

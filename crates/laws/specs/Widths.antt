@@ -28,7 +28,7 @@ use Rattle.rules.specs.Links.{none, linksOf}
 use Rattle.rules.specs.Job.{Job, vertexAt, contourVertices, countT, countV}
 use Rattle.rules.specs.Checks.{Lent}
 use Rattle.rules.specs.Build.{weldHeight, contourTriangle, addContour, built, outcome}
-use Rattle.rules.specs.Widths.{Widths, Fits, WrittenFits}
+use Rattle.rules.specs.Widths.{Widths, Fits, WrittenFits, AlwaysRoom}
 use Rattle.laws.specs.Lists
 use Rattle.laws.specs.Lists.{All, all-at}
 use Rattle.laws.specs.Merge.{Good, Below}
@@ -277,3 +277,6 @@ written-fits j b m ls log w e =
       codes = λ i. every-at Tagged noPolygon (m .polygons) (n .polygons) i .code;
       links = λ i k. rw (built-links j m ls log b e) (every-at (λ n. n ≤ 65539) none _ (every-at (UpTo 65539) [] _ l i) k);
     }
+
+pub always-room : AlwaysRoom
+always-room j b m ls log e = let o = bounded j b m ls log e in record { polygons = o .polygons; vertices = o .vertices }

@@ -7,7 +7,7 @@ use Rattle.rules.specs.Weld.{noVertex}
 use Rattle.rules.specs.Mesh.{Mesh, polygonAt}
 use Rattle.rules.specs.Removal.{Removal}
 use Rattle.rules.specs.Links.{none}
-use Rattle.rules.specs.Job.{Job}
+use Rattle.rules.specs.Job.{Job, countV, countT}
 use Rattle.rules.specs.Checks.{Lent}
 use Rattle.rules.specs.Build.{built, outcome}
 
@@ -37,3 +37,11 @@ pub record Fits (m : Mesh) (ls : List (List ℕ)) : Type 0 where
 
 abbrev pub WrittenFits : Type 0
 WrittenFits = (j : Job) (b : Lent) (m : Mesh) (ls : List (List ℕ)) (log : List Removal) → Widths j → outcome j b ≡ built m ls log → Fits m ls
+
+-- "`TooManyPolygons` can't arise.": a mesh has at most T polygons and V vertices, so that they find room in the buffers
+pub record HasRoom (j : Job) (m : Mesh) : Type 0 where
+  pub polygons : length (m .polygons) ≤ countT j
+  pub vertices : length (m .vertices) ≤ countV j
+
+abbrev pub AlwaysRoom : Type 0
+AlwaysRoom = (j : Job) (b : Lent) (m : Mesh) (ls : List (List ℕ)) (log : List Removal) → outcome j b ≡ built m ls log → HasRoom j m

@@ -100,7 +100,8 @@ pub struct Header {
     pub max_edge_error: f32,
 }
 
-// Replies 1 to 8, in the order of their numbers. What each carries is its second number; reply 2's is 0.
+// Replies 1 to 8, in the order of their numbers. What each carries is its second number; reply 2's is 0. 64 bits hold the
+// number of any vertex of any slice, and any V.
 pub enum Refusal {
     BadCornerLimit(u64),
     CountsDisagree,
