@@ -17,7 +17,7 @@ use Rattle.rules.specs.Job.{Job, sumOver, countAll, countV, countT}
 use Rattle.rules.specs.Checks.{Lent, Checked, passed, refusal, check, lengthsOf}
 use Rattle.rules.specs.Build.{Contours, added, noEarIn, addAll, refused, built, linked, cleared, afterCheck, outcome}
 use Rattle.rules.specs.Areas.{sumOf, meshArea, jobArea, areaTaken}
-use Rattle.laws.specs.Measures.{spareOf, sparesIn, takenBy}
+use Rattle.laws.specs.Measures.{sparesIn, takenBy}
 use Rattle.laws.specs.Lists.{All, none, all-imp, sum-append, total, total-append}
 use Rattle.laws.specs.Removal.{Sound, Step, Removable, removable, removed-ok, corners-removed}
 use Rattle.laws.specs.Merge.{Good, Below, Long, polygons-few}

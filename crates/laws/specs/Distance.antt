@@ -3,14 +3,13 @@
 use mathlib.Core.Path.{_≡_, refl, sym, ap, _∙_, subst}
 use mathlib.Core.Bool.{Bool, true, false, not, cond, true≢false}
 use Prim.Native.Nat.{ℕ, zero, suc, _+_, _-_, _*_, _^_, _≤_, _<_}
-use native.Mathlib.Nat.{le-refl, lt-irrefl, mul-assoc, mul-comm, mul-right-comm, mul-one, one-mul, zero-mul, mul-zero, mul-pos, sub-self, mul-sub}
+use native.Mathlib.Nat.{le-refl, mul-assoc, mul-comm, mul-one, zero-mul, mul-zero, mul-pos, sub-self, mul-sub}
 use native.Mathlib.Omega.{arith}
-use lib.IntN.{ℤ, pos, negsuc}
-use lib.Dec.{T, ltb, eqb, eqb·suc-zero}
+use lib.IntN.{ℤ, pos}
+use lib.Dec.{ltb, eqb·suc-zero}
 use lib.Ieee as Ieee
-use lib.Ieee.{Float, nan, inf, fin, Format, binary32, up, down, round, size, span, climb, units, odd, add, sub, mul, div, neg, sum, lt, ofInt, ofBits, unlike}
-use lib.Count.{trailingZeros}
-use borrow.Author.Tests.{le-ltb, lt-ltb, ltb-true}
+use lib.Ieee.{Float, nan, inf, fin, binary32, up, down, round, add, sub, mul, div, neg, sum, lt, ofInt, ofBits, unlike}
+use borrow.Author.Tests.{le-ltb}
 use lib.Ieee.Fits.{up-pos, down-pos}
 use lib.Ieee.Exact.{HasValue}
 use lib.Ieee.Back.{round-whole}

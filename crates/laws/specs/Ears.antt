@@ -41,6 +41,9 @@ pub mark-index : (ps : List Point) (ws : List ℕ) → map indexOf (markAll ps w
 unfolding markAll markFrom
 mark-index ps ws = each-kept (markFrom ps (length ws)) (map indexOf) (λ i s. remark-index ps i _ _ s) 0 (length ws) ws
 
+pub length-marked : (ps : List Point) (ws : List ℕ) → length (markAll ps ws) ≡ length ws
+length-marked ps ws = sym (length-map (markAll ps ws) indexOf) ∙ ap length (mark-index ps ws) ∙ length-map ws indexOf
+
 pub cut-index : (ps : List Point) (i : ℕ) (ws : List ℕ) → map indexOf (cutEar ps i ws) ≡ without (map indexOf ws) (next i (length ws))
 unfolding cutEar remarkGap
 cut-index ps i ws = remark-index ps _ _ _ _ ∙ remark-index ps _ _ _ _ ∙ map-without indexOf ws (next i (length ws))
@@ -258,4 +261,4 @@ triangulated ps ts h k e =
     }
   where
     lengths : length (markAll ps (indices (length ps))) ≡ length ps - 3 + 3
-    lengths = sym (length-map (markAll ps (indices (length ps))) indexOf) ∙ ap length (start-index ps (length ps) k) ∙ length-indices (length ps) ∙ omega arith
+    lengths = length-marked ps (indices (length ps)) ∙ length-indices (length ps) ∙ omega arith

@@ -3,7 +3,7 @@
 use Prim.Native.Nat.{ℕ, zero, suc, _+_, _-_, _*_, _≤_, _<_}
 use native.Mathlib.Nat.{zero-add, mul-le-mul-right, le-trans}
 use native.Mathlib.Omega.{arith}
-use mathlib.Core.Path.{_≡_, refl, sym, _∙_, ap, ap₂}
+use mathlib.Core.Path.{_≡_, refl, sym, _∙_, ap}
 use mathlib.Core.List.{List, [], _∷_, _++_, map}
 use mathlib.Core.Bool.{false}
 use lib.Dec.{eqb}
@@ -18,7 +18,7 @@ use Rattle.rules.specs.Weld.{noVertex}
 use Rattle.rules.specs.Mesh.{Polygon, noPolygon, polygonAt, Mesh}
 use Rattle.rules.specs.Removal.{Removal}
 use Rattle.rules.specs.Links.{none, linksOf}
-use Rattle.rules.specs.Job.{Job, countV, countT}
+use Rattle.rules.specs.Job.{Job}
 use Rattle.rules.specs.Checks.{Lent, vertexStride, leastLengths, lengthsOf}
 use Rattle.rules.specs.Build.{built, outcome}
 use Rattle.rules.specs.Exits.{vertexWords, padded, cornerWords, filled, exitOf, exits, Stored, vertexOf, upToNone, storedPolygon, storedLinks, decoded, ReadsBack}

@@ -1,31 +1,30 @@
 -- The rules' loops, with the fuel that they are given, take every turn that their sentences ask for: what `rules` states in its file `Fuel`. Each turn of a
 -- loop lowers what is left by one, and so the fuel is always what is left. Assumes nothing.
 use mathlib.Core.Path.{_≡_, refl, sym, ap, subst, _∙_}
-use mathlib.Core.Bool.{Bool, true, false, cond}
+use mathlib.Core.Bool.{Bool, true, false}
 use mathlib.Core.Logic.{_⊎_, inl, inr, ⊎-elim}
-use mathlib.Core.List.{List, [], _∷_, _++_, map}
+use mathlib.Core.List.{List, [], _∷_, _++_}
 use Prim.Native.Nat.{ℕ, zero, suc, _+_, _-_, _≤_, _<_}
 use native.Mathlib.Omega.{arith}
 use lib.Dec.{ltb}
-use borrow.Author.Tests.{lt-ltb, le-ltb, ltb-true, ltb-false}
+use borrow.Author.Tests.{lt-ltb, le-ltb, ltb-false}
 use lib.ListN.{length, getD, set, length-set}
 use Rattle.mem.specs.Cases.{lt-or-le}
 use Rattle.mem.specs.Loops.{times, times-end, times-turn, times-last, times-still, each, steps}
-use Rattle.rules.specs.Plane.{onPlane}
 use Rattle.rules.specs.Lists.{swapRemove}
-use Rattle.rules.specs.Ears.{findEar, cutEar, triangleAt, cutAll, done, stuck, triangulate}
-use Rattle.rules.specs.Mesh.{Polygon, noPolygon, polygonAt, Mesh}
+use Rattle.rules.specs.Ears.{indices, markAll, findEar, cutEar, cutAll, triangulate}
+use Rattle.rules.specs.Mesh.{Polygon, noPolygon, polygonAt, Mesh, noMesh}
 use Rattle.rules.specs.Merge.{bestPair, joinPair, joined, mergeLoop, mergeAll}
-use Rattle.rules.specs.Removal.{holds, untouched, TakingOut, takeOne, takenOut, noSide, Walk, Fit, front, back, neither, fitOf, walkBy, walkOne, walkOnce, walkStart, walk, Removal, Removed, gone, noEars, fillHole, removeVertex, Removals, removed, stuckAt, goes, removeFrom}
-use Rattle.rules.specs.Job.{Job, contourVertices, contourFlags}
-use Rattle.rules.specs.Build.{weldHeight, addContour, added, noEarIn, addFrom}
-use Rattle.rules.specs.Fuel.{cutting, Cutting, merging, Merging, NoPairLeft, taking, Taking, TakenOut, passing, Passing, WalkedOnce, walking, Walking, NoSideLeftToUse, trying, Trying, adding, Adding, FuelSuffices}
+use Rattle.rules.specs.Removal.{holds, untouched, TakingOut, takeOne, takenOut, noSide, Walk, Fit, front, back, neither, fitOf, walkBy, walkOne, walkOnce, walkStart, walk, Removal, gone, removeVertex, removeFrom, removeAll}
+use Rattle.rules.specs.Job.{Job}
+use Rattle.rules.specs.Build.{addFrom, addAll}
+use Rattle.rules.specs.Fuel.{Cutting, CutFromTheStart, Merging, NoPairLeft, Taking, TakenOut, Passing, WalkedOnce, Walking, NoSideLeftToUse, Trying, TriedFromTheStart, Adding, AddedFromTheStart, FuelSuffices}
 use Rattle.rules.specs.declared.Point.{Point}
 use Rattle.rules.specs.declared.Vertex.{Vertex}
 use Rattle.rules.specs.declared.Side.{Side}
 use Rattle.rules.specs.declared.Pair.{Pair}
 use Rattle.laws.specs.Lists.{swap-length, length-without}
-use Rattle.laws.specs.Ears.{length-cut, cut-true, cut-false}
+use Rattle.laws.specs.Ears.{length-cut, length-marked, length-indices, cut-true, cut-false}
 use Rattle.laws.specs.Walks.{one-left}
 use Rattle.laws.specs.Removal.{removal-fills}
 use Rattle.laws.specs.Contours.{add-skip, add-stuck, add-done}
@@ -46,6 +45,12 @@ cutting-turns ps ws out =
           ap (λ (f : ℕ). cutAll f ps ws out) p ∙ cut-false (length ws - 1 - 3) ps ws out e;
       last = λ h. let p : length ws - 3 ≡ 0 = omega arith in ap (λ (f : ℕ). cutAll f ps ws out) p;
     }
+
+pub cut-from-the-start : CutFromTheStart
+unfolding triangulate
+cut-from-the-start ps =
+    let ws = markAll ps (indices (length ps)) in
+    ap (λ (n : ℕ). cutAll (n - 3) ps ws []) (sym (length-marked ps (indices (length ps)) ∙ length-indices (length ps)))
 
 -- ---- R4
 some-pair : (vs : List Vertex) (nvp : ℕ) (ps : List Polygon) → 0 < bestPair vs nvp ps .length → 0 < length ps
@@ -257,6 +262,10 @@ trying-turns nvp i m log =
       end = λ h. let p : n - i ≡ 0 = omega arith in ap (λ (f : ℕ). removeFrom f nvp i m log) p;
     }
 
+pub tried-from-the-start : TriedFromTheStart
+unfolding removeAll
+tried-from-the-start nvp m = let p : length (m .vertices) ≡ length (m .vertices) - 0 = omega arith in ap (λ (n : ℕ). removeFrom n nvp 0 m []) p
+
 -- ---- the contours
 pub adding-turns : (j : Job) (c first : ℕ) (m : Mesh) → Adding j c first m (getD (j .lengths) c 0)
 unfolding addFrom
@@ -271,9 +280,14 @@ adding-turns j c first m =
       end = λ h. let p : l - c ≡ 0 = omega arith in ap (λ (f : ℕ). addFrom f j c first m) p;
     }
 
+pub added-from-the-start : AddedFromTheStart
+unfolding addAll
+added-from-the-start j = let p : length (j .lengths) ≡ length (j .lengths) - 0 = omega arith in ap (λ (n : ℕ). addFrom n j 0 0 noMesh) p
+
 -- ---- all of it
 pub fuel-suffices : FuelSuffices
 fuel-suffices = record {
+  cut = cut-from-the-start;
   cuts = cutting-turns;
   merges = merging-turns;
   merged = no-pair-left;
@@ -284,5 +298,7 @@ fuel-suffices = record {
   walks = walking-turns;
   walked = no-side-left;
   tries = trying-turns;
+  tried = tried-from-the-start;
   adds = adding-turns;
+  added = added-from-the-start;
 }

@@ -1,15 +1,13 @@
 -- Demand 3, as `rules` states it: of every job that is built, ground is neither lost nor cut twice; and the corners add up. Assumes nothing.
-use Prim.Native.Nat.{ℕ, _-_, _≤_, _<_}
+use Prim.Native.Nat.{ℕ, _-_, _≤_}
 use native.Mathlib.Omega.{arith}
-use mathlib.Core.Path.{_≡_, refl, _∙_, ap₂}
+use mathlib.Core.Path.{_≡_, refl, ap₂}
 use mathlib.Core.Bool.{Bool, true, false, cond}
 use mathlib.Core.List.{List, [], _∷_}
-use lib.IntN.{ℤ, pos, _+ℤ_, _-ℤ_}
+use lib.IntN.{pos, _+ℤ_, _-ℤ_}
 use lib.ListN.{length}
-use Rattle.ints.specs.Ring.{at, nat, _⊕_, _⊖_, is-eq}
-use Rattle.ints.specs.Order.{ints, told}
-use Rattle.rules.specs.Mesh.{Polygon, noPolygon, Mesh}
-use Rattle.rules.specs.Merge.{mergeAll}
+use Rattle.ints.specs.Ring.{nat, _⊖_, is-eq}
+use Rattle.rules.specs.Mesh.{Polygon, noPolygon}
 use Rattle.rules.specs.Removal.{Removal}
 use Rattle.rules.specs.Job.{countT}
 use Rattle.rules.specs.Areas.{sumOf, spareCorners, sparesOf, cornersTaken, AreaLaw, ContourCorners, RemovalCorners, CornerLaw}

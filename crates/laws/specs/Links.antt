@@ -1,10 +1,10 @@
 -- R6 and R7: a link is the number of a polygon, none, or a portal; and there is one for each side. Assumes nothing.
-use Prim.Native.Nat.{ℕ, zero, suc, _+_, _≤_, _<_}
+use Prim.Native.Nat.{ℕ, zero, suc, _≤_, _<_}
 use native.Mathlib.Omega.{arith}
 use mathlib.Core.Path.{_≡_, refl, sym, _∙_, ap}
-use mathlib.Core.Bool.{Bool, true, false, cond, _&&_}
+use mathlib.Core.Bool.{_&&_}
 use mathlib.Core.Logic.{⊎-elim, _≢_}
-use mathlib.Core.List.{List, [], _∷_, _++_, map}
+use mathlib.Core.List.{List, [], _∷_}
 use lib.Dec.{eqb, ltb}
 use lib.ListN.{length, getD, set, replicate, length-set, length-map, length-replicate, List·getD-eq-default}
 use lib.Seq.{getD-set-same, getD-set-other, set-out}
@@ -18,7 +18,7 @@ use Rattle.rules.specs.declared.Vertex.{Vertex}
 use Rattle.rules.specs.declared.Edge.{Edge}
 use Rattle.rules.specs.declared.Found.{Found}
 use Rattle.rules.specs.declared.Found.the-variants.{At, Nothing}
-use Rattle.rules.specs.Mesh.{Polygon, noPolygon, polygonAt, sideStart, sideEnd, placeOf}
+use Rattle.rules.specs.Mesh.{Polygon, noPolygon, polygonAt, sideStart, sideEnd}
 use Rattle.rules.specs.Links.{none, noEdge, eachSide, recordSide, newest, joinedTo, joinAt, joinSide, edgesOf, setLink, storeEdge, noLinks, linksOf}
 use Rattle.rules.specs.Portals.{portalOf, portalAt, portalsIn, portals}
 

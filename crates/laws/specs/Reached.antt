@@ -15,8 +15,7 @@ use Rattle.rules.specs.Links.{linksOf}
 use Rattle.rules.specs.Portals.{portals}
 use Rattle.rules.specs.Job.{Job, contourVertices, contourFlags}
 use Rattle.rules.specs.Checks.{Lent, Checked, passed, refusal, check, lengthsOf}
-use Rattle.rules.specs.Build.{weldHeight, addContour, Contours, added, noEarIn, addFrom, addAll, refused, built, linked, cleared, afterCheck, outcome}
-use Rattle.rules.specs.declared.Refusal.{Refusal}
+use Rattle.rules.specs.Build.{weldHeight, addContour, Contours, added, noEarIn, addFrom, addAll, built, linked, cleared, afterCheck, outcome}
 use Rattle.rules.specs.declared.Refusal.the-variants.{NoEarInContour, NoEarInHole}
 use Rattle.laws.specs.Checks.{Passed, checked}
 use Rattle.laws.specs.Contours.{add-skip, add-stuck, add-done}

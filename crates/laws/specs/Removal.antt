@@ -25,15 +25,15 @@ use Rattle.rules.specs.Ears.{Ears, done, stuck, triangulate}
 use Rattle.rules.specs.Weld.{noVertex}
 use Rattle.rules.specs.Mesh.{Polygon, Mesh, placeOf}
 use Rattle.rules.specs.Merge.{mergeAll}
-use Rattle.rules.specs.Removal.{noPoint, holds, untouched, TakingOut, takenOut, dropped, droppedIn, droppedSide, polygonsLeft, sidesLeft, firstOf, lastOf, walk, heldOnce, metOnce, neighbours, canRemove, isClosed, holeOf, placesOf, holeTriangle, Removal, gone, noEars, fillHole, removeVertex}
+use Rattle.rules.specs.Removal.{noPoint, holds, untouched, TakingOut, takenOut, dropped, droppedIn, droppedSide, polygonsLeft, sidesLeft, firstOf, lastOf, walk, heldOnce, metOnce, neighbours, canRemove, isClosed, holeOf, placesOf, holeTriangle, Removal, gone, fillHole, removeVertex}
 use Rattle.rules.specs.Areas.{sumOf, pointsOf, polygonArea, meshArea, areaTaken}
 use Rattle.laws.specs.Measures.{areaOf, spareOf, sparesIn, takenBy}
-use Rattle.laws.specs.Lists.{All, none, more, all-append, all-at, all-perm, all-left, all-right, all-take, all-imp, all-both, all-map, all-without, length-without, map-same, map-take, getD-map-in, sum-append, sum-perm, sum-same, sum-map, sum-gather, total, total-append, total-perm, total-same, total-map, length-gather, all-gather}
+use Rattle.laws.specs.Lists.{All, none, more, all-append, all-at, all-perm, all-left, all-right, all-take, all-imp, all-both, all-map, all-without, length-without, map-same, map-take, getD-map-in, sum-append, sum-perm, sum-same, sum-map, sum-gather, total, total-append, total-perm, total-same, length-gather, all-gather}
 use Rattle.laws.specs.Sides.{path, path-map, area-seen, area-open}
 use Rattle.laws.specs.Ears.{Triangle, triangle, cutArea, triangulated, triangles-counted}
 use Rattle.laws.specs.Merge.{Good, Below, Long, Corners, merged, triangles-merged}
 use Rattle.laws.specs.Around.{seen, area-untouched, length-untouched, Clear, ClearSide, clear-untouched, TookOut, took-out, held-once, not-held}
-use Rattle.laws.specs.Walks.{chainSum, onSide, Walked, walked}
+use Rattle.laws.specs.Walks.{chainSum, onSide, walked}
 
 -- ---- "Higher vertex numbers drop by 1.": a vertex other than the one that goes keeps its place
 pub dropped-low : (rem v : ℕ) → v ≤ rem → dropped rem v ≡ v

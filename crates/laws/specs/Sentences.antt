@@ -1,7 +1,6 @@
 -- Where a definition of the rules takes another way than its sentence, the two come to the same: what `rules` states in its file `Sentences`.
 -- Assumes nothing.
 use mathlib.Core.Path.{ap, ap₂}
-use Prim.Native.Nat.{ℕ}
 use Rattle.rules.specs.Weld.{bucket}
 use Rattle.rules.specs.Sentences.{NextIsRemainder, PrevIsRemainder, SameBucket}
 use Rattle.rules.specs.declared.Point.{Point}

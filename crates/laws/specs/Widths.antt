@@ -2,38 +2,35 @@
 -- corners are numbers of vertices, and links are numbers of polygons, none, or portals. Assumes nothing.
 use Prim.Native.Nat.{ℕ, zero, suc, _+_, _-_, _^_, _≤_, _<_}
 use native.Mathlib.Omega.{arith}
-use mathlib.Core.Path.{_≡_, refl, subst}
+use mathlib.Core.Path.{_≡_}
 use mathlib.Core.Bool.{Bool, true, false, cond, _&&_, _||_}
 use mathlib.Core.Logic.{⊎-elim}
 use mathlib.Core.List.{List, [], _∷_, _++_, map}
-use lib.Dec.{eqb, leb, ltb}
+use lib.Dec.{eqb, ltb}
 use lib.ListN.{length, take, drop, getD, set, List·getD-eq-default}
 use Rattle.ints.specs.Bools.{cond-ind}
 use Rattle.mem.specs.Cases.{lt-or-le}
 use Rattle.mem.specs.Loops.{over-ind, each-ind, times-ind}
 use Rattle.mem.specs.Packed.{Every, every-at, every-of, every-nil, every-set, every-take, every-drop, every-append, every-same, every-map, every-tab}
 use Rattle.rules.specs.declared.Vertex.{Vertex}
-use Rattle.rules.specs.declared.Edge.{Edge}
 use Rattle.rules.specs.declared.Pair.{Pair}
 use Rattle.rules.specs.declared.Side.{Side}
 use Rattle.rules.specs.declared.ChainPoint.{ChainPoint}
-use Rattle.rules.specs.declared.Found.{Found}
-use Rattle.rules.specs.declared.Found.the-variants.{At, Nothing}
 use Rattle.rules.specs.Lists.{swapRemove, without}
 use Rattle.rules.specs.Weld.{noVertex, Welded, addVertex, weldOne, weldAll, numberOf}
-use Rattle.rules.specs.Mesh.{Polygon, noPolygon, polygonAt, Mesh, noMesh, sideStart, sideEnd, placeOf}
+use Rattle.rules.specs.Mesh.{Polygon, noPolygon, polygonAt, Mesh}
 use Rattle.rules.specs.Merge.{bestPair, joined, joinPair, mergeLoop, mergeAll}
-use Rattle.rules.specs.Removal.{noSide, noPoint, untouchedSide, sideInto, untouched, TakingOut, takeOne, takenOut, droppedIn, droppedSide, polygonsLeft, sidesLeft, holds, Walk, broughtBy, Fit, front, back, neither, fitOf, walkBy, walkOne, walkOnce, walkStart, walk, isClosed, holeOf, holeTriangle, Removal, gone, removeVertex}
+use Rattle.rules.specs.Removal.{noSide, noPoint, untouchedSide, sideInto, untouched, TakingOut, takeOne, takenOut, droppedIn, droppedSide, polygonsLeft, sidesLeft, holds, Walk, broughtBy, Fit, front, back, neither, walkBy, walkOne, walkOnce, walkStart, walk, isClosed, holeOf, holeTriangle, Removal, gone, removeVertex}
 use Rattle.rules.specs.Links.{none, linksOf}
 use Rattle.rules.specs.Job.{Job, vertexAt, contourVertices, countT, countV}
 use Rattle.rules.specs.Checks.{Lent}
 use Rattle.rules.specs.Build.{weldHeight, contourTriangle, addContour, built, outcome}
-use Rattle.rules.specs.Widths.{Widths, Fits, WrittenFits, AlwaysRoom}
+use Rattle.rules.specs.Widths.{Widths, WrittenFits, AlwaysRoom}
 use Rattle.laws.specs.Lists
 use Rattle.laws.specs.Lists.{All, all-at}
 use Rattle.laws.specs.Merge.{Good, Below}
 use Rattle.laws.specs.Removal.{removal-fills}
-use Rattle.laws.specs.Checks.{Passed, T-far-below-V}
+use Rattle.laws.specs.Checks.{T-far-below-V}
 use Rattle.laws.specs.Build.{Bounded, bounded}
 use Rattle.laws.specs.Links.{UpTo, links-up-to, portals-up-to}
 use Rattle.laws.specs.Reached.{withContour, reached, built-links, built-passed}

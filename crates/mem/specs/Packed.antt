@@ -4,12 +4,12 @@
 use mathlib.Core.Path.{_≡_, refl, sym, ap, _∙_}
 use mathlib.Core.List.{List, [], _∷_, _++_, map, append-assoc}
 use mathlib.Core.Logic.{⊎-elim, _≢_}
-use Prim.Native.Nat.{ℕ, zero, suc, _+_, _-_, _*_, _≤_, _<_}
+use Prim.Native.Nat.{ℕ, zero, suc, _+_, _*_, _≤_, _<_}
 use native.Mathlib.Nat.{le-refl, zero-add, suc-mul, zero-mul}
 use native.Mathlib.Omega.{arith}
-use lib.ListN.{length, take, drop, getD, set, length-append, List·getD-append, List·getD-eq-default, replicate}
-use lib.Seq.{ext-getD, getD-set-same, getD-set-other, set-out, getD-take, getD-drop, drop-drop, take-at, drop-at, getD-append-add}
-use Rattle.mem.specs.Slice.{view, splice, splice-nil, splice-inside, view-same, view-view, length-splice}
+use lib.ListN.{length, take, drop, getD, set, length-append, List·getD-eq-default, replicate}
+use lib.Seq.{ext-getD, getD-set-same, getD-set-other, set-out, getD-drop, drop-drop, take-at, drop-at}
+use Rattle.mem.specs.Slice.{view, splice, splice-nil, splice-inside, view-same, view-view}
 use Rattle.mem.specs.Cases.{lt-or-le, eq-or-ne}
 use Rattle.mem.specs.Tab.{tab, length-tab, getD-tab, blocks, length-blocks, getD-blocks}
 use Rattle.mem.specs.Loops.{block-fits}

@@ -3,14 +3,14 @@
 use mathlib.Core.Path.{_≡_, refl, sym, ap, _∙_}
 use mathlib.Core.List.{List, [], _∷_, _++_}
 use mathlib.Core.Logic.{⊎-elim, _≢_}
-use Prim.Native.Nat.{ℕ, zero, suc, _+_, _-_, _*_, _≤_, _<_}
+use Prim.Native.Nat.{ℕ, zero, suc, _+_, _*_, _≤_, _<_}
 use native.Mathlib.Nat.{le-refl}
 use native.Mathlib.Numerals.{add-one}
 use native.Mathlib.Omega.{arith}
 use borrow.Author.Count.{below-more}
 use lib.ListN.{length, take, drop, getD, set, length-append, length-set, length-drop, List·getD-append, replicate}
 use lib.Seq.{getD-at, ext-getD, getD-set-same, getD-set-other, take-suc, getD-drop}
-use Rattle.mem.specs.Slice.{view, splice, splice-nil, write-step, replicate-snoc, view-before, view-after, view-same, length-view, getD-view}
+use Rattle.mem.specs.Slice.{view, splice, splice-nil, write-step, replicate-snoc, view-before, view-after, view-same}
 use Rattle.mem.specs.Cases.{lt-or-le, eq-or-ne}
 use Rattle.mem.specs.Loops.{block-fits}
 

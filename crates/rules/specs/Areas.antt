@@ -6,7 +6,7 @@ use Prim.Native.Nat.{ℕ, _+_, _≤_, _<_}
 use lib.IntN.{ℤ, pos, _+ℤ_, _-ℤ_}
 use lib.ListN.{length}
 use Rattle.rules.specs.Plane.{D, area, onPlane}
-use Rattle.rules.specs.Ears.{Ears, done, triangulate}
+use Rattle.rules.specs.Ears.{done, triangulate}
 use Rattle.rules.specs.Mesh.{Polygon, polygonAt, Mesh, placeOf}
 use Rattle.rules.specs.Merge.{mergeAll}
 use Rattle.rules.specs.Removal.{Removal, gone, goes, removeVertex}

@@ -1,12 +1,12 @@
 -- The build: the checks, the contours one after the other, the removals, the links; what it comes to, and its reply. Definitions only.
-use mathlib.Core.Bool.{Bool, true, false}
+use mathlib.Core.Bool.{true, false}
 use mathlib.Core.List.{List, [], _++_, map}
 use Prim.Native.Nat.{ℕ, zero, suc, _+_}
 use lib.Dec.{ltb}
 use lib.ListN.{length, getD}
 use Rattle.rules.specs.Plane.{onPlane}
-use Rattle.rules.specs.Ears.{Ears, done, stuck, triangulate}
-use Rattle.rules.specs.Weld.{Welded, weldAll}
+use Rattle.rules.specs.Ears.{done, stuck, triangulate}
+use Rattle.rules.specs.Weld.{weldAll}
 use Rattle.rules.specs.Mesh.{Polygon, Mesh, noMesh}
 use Rattle.rules.specs.Merge.{mergeAll}
 use Rattle.rules.specs.Removal.{Removal, Removals, removed, stuckAt, removeAll}

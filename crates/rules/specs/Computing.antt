@@ -1,5 +1,4 @@
 -- One name that opens all of the rules, so that an example computes: whoever writes `unfolding rules` may say `refl` of any job. No definition of a rule.
-use Prim.Native.Nat.{ℕ}
 use Rattle.mem.specs.Slice.{splice}
 use Rattle.mem.specs.Loops.{run, over, steps, each, times}
 use Rattle.mem.specs.Tab.{tab}

@@ -1,5 +1,5 @@
 -- R1: strict and loose diagonals of a ring of n places, `p k` being the point at place k. Definitions only.
-use mathlib.Core.Bool.{Bool, true, false, not, _&&_, _||_, cond}
+use mathlib.Core.Bool.{Bool, false, not, _&&_, _||_, cond}
 use Prim.Native.Nat.{ℕ}
 use lib.Dec.{eqb}
 use Rattle.mem.specs.Loops.{over}

@@ -1,7 +1,7 @@
 -- K1 to K12 of the document, and behind them rows of our own: a single table under a single statement, proved by computing. The rows of our own are there
 -- because the document's rows don't notice every change to a rule; each says what it shows.
 use mathlib.Core.Path.{_≡_, refl}
-use mathlib.Core.Bool.{Bool, true, false}
+use mathlib.Core.Bool.{true, false}
 use mathlib.Core.List.{List, [], _∷_, _++_, map}
 use Prim.Native.Nat.{ℕ, _+_}
 use lib.IntN.{ℤ, pos, negℤ}

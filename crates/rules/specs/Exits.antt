@@ -16,7 +16,6 @@ use Rattle.rules.specs.Checks.{Lent, vertexStride, workWords}
 use Rattle.rules.specs.Replies.{writesNothing}
 use Rattle.rules.specs.Build.{Outcome, refused, built, outcome}
 use Rattle.rules.specs.declared.Vertex.{Vertex}
-use Rattle.rules.specs.declared.Refusal.{Refusal}
 
 -- ---- what is written
 

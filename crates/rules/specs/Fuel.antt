@@ -7,12 +7,12 @@ use Prim.Native.Nat.{ℕ, _+_, _-_, _≤_, _<_}
 use lib.ListN.{length, getD}
 use Rattle.mem.specs.Loops.{times}
 use Rattle.rules.specs.Plane.{onPlane}
-use Rattle.rules.specs.Ears.{Ears, done, stuck, findEar, cutEar, triangleAt, cutAll, triangulate}
-use Rattle.rules.specs.Mesh.{Polygon, Mesh}
+use Rattle.rules.specs.Ears.{Ears, done, stuck, indices, markAll, findEar, cutEar, triangleAt, cutAll, triangulate}
+use Rattle.rules.specs.Mesh.{Polygon, Mesh, noMesh}
 use Rattle.rules.specs.Merge.{bestPair, joinPair, mergeLoop, mergeAll}
-use Rattle.rules.specs.Removal.{TakingOut, takeOne, takenOut, Walk, walkOne, walkOnce, walk, Removal, gone, noEars, removeVertex, Removals, removed, stuckAt, goes, removeFrom}
+use Rattle.rules.specs.Removal.{TakingOut, takeOne, takenOut, Walk, walkOne, walkOnce, walk, Removal, gone, noEars, removeVertex, Removals, removed, stuckAt, goes, removeFrom, removeAll}
 use Rattle.rules.specs.Job.{Job, contourVertices, contourFlags}
-use Rattle.rules.specs.Build.{Contours, added, noEarIn, weldHeight, addContour, addFrom}
+use Rattle.rules.specs.Build.{Contours, added, noEarIn, weldHeight, addContour, addFrom, addAll}
 use Rattle.rules.specs.declared.Point.{Point}
 use Rattle.rules.specs.declared.Side.{Side}
 use Rattle.rules.specs.declared.Vertex.{Vertex}
@@ -27,6 +27,10 @@ pub record Cutting (ps : List Point) (ws : List ℕ) (out : List (List ℕ)) : T
       → cutting ps ws out ≡ cutting ps (cutEar ps (findEar ps ws .at) ws) (out ++ (triangleAt ws (findEar ps ws .at) ∷ []))
   pub none : 3 < length ws → findEar ps ws .any ≡ false → cutting ps ws out ≡ stuck (length out)
   pub last : length ws ≤ 3 → cutting ps ws out ≡ done (out ++ (triangleAt ws 0 ∷ []))
+
+-- what the cutting starts with
+abbrev pub CutFromTheStart : Type 0
+CutFromTheStart = (ps : List Point) → triangulate ps ≡ cutting ps (markAll ps (indices (length ps))) []
 
 -- ---- R4: until no pair is left
 
@@ -91,6 +95,9 @@ pub record Trying (nvp i : ℕ) (m : Mesh) (log : List Removal) : Type 0 where
   pub stuck : i < length (m .vertices) → goes i m ≡ true → removeVertex nvp i m ≡ noEars → trying nvp i m log ≡ stuckAt i
   pub end : length (m .vertices) ≤ i → trying nvp i m log ≡ removed m log
 
+abbrev pub TriedFromTheStart : Type 0
+TriedFromTheStart = (nvp : ℕ) (m : Mesh) → removeAll nvp m ≡ trying nvp 0 m []
+
 -- ---- "Contours in order"
 
 abbrev pub adding : Job → ℕ → ℕ → Mesh → Contours
@@ -107,9 +114,13 @@ pub record Adding (j : Job) (c first : ℕ) (m : Mesh) (n : ℕ) : Type 0 where
       → adding j c first m ≡ noEarIn c k
   pub end : length (j .lengths) ≤ c → adding j c first m ≡ added m
 
+abbrev pub AddedFromTheStart : Type 0
+AddedFromTheStart = (j : Job) → addAll j ≡ adding j 0 0 noMesh
+
 -- ---- all of it
 
 pub record FuelSuffices : Type 0 where
+  pub cut : CutFromTheStart
   pub cuts : (ps : List Point) (ws : List ℕ) (out : List (List ℕ)) → Cutting ps ws out
   pub merges : (vs : List Vertex) (nvp : ℕ) (ps : List Polygon) → Merging vs nvp ps
   pub merged : NoPairLeft
@@ -120,4 +131,6 @@ pub record FuelSuffices : Type 0 where
   pub walks : (w : Walk) → Walking w
   pub walked : NoSideLeftToUse
   pub tries : (nvp i : ℕ) (m : Mesh) (log : List Removal) → Trying nvp i m log
+  pub tried : TriedFromTheStart
   pub adds : (j : Job) (c first : ℕ) (m : Mesh) → Adding j c first m (getD (j .lengths) c 0)
+  pub added : AddedFromTheStart

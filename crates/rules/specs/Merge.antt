@@ -1,9 +1,9 @@
 -- R4: polygons of one contour or one hole are merged. Definitions only.
 use mathlib.Core.Bool.{Bool, true, false, _&&_, _||_, cond}
-use mathlib.Core.List.{List, [], _∷_, _++_}
-use Prim.Native.Nat.{ℕ, zero, suc, _+_, _-_, _%_}
+use mathlib.Core.List.{List, _++_}
+use Prim.Native.Nat.{ℕ, zero, suc, _+_, _-_}
 use lib.Dec.{eqb, leb, ltb}
-use lib.ListN.{length, getD, set}
+use lib.ListN.{length, set}
 use Rattle.mem.specs.Loops.{over, each}
 use Rattle.mem.specs.Tab.{tab}
 use Rattle.rules.specs.Lists.{down, swapRemove}

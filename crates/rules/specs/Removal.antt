@@ -5,8 +5,7 @@ use Prim.Native.Nat.{ℕ, zero, suc, _+_, _-_}
 use lib.Dec.{eqb, leb, ltb}
 use lib.ListN.{length, take, getD}
 use Rattle.mem.specs.Loops.{over, times}
-use Rattle.rules.specs.Lists.{next, prev, without, swapRemove, count}
-use Rattle.rules.specs.Plane.{onPlane}
+use Rattle.rules.specs.Lists.{prev, without, swapRemove, count}
 use Rattle.rules.specs.Ears.{Ears, done, stuck, triangulate}
 use Rattle.rules.specs.Mesh.{Polygon, noPolygon, polygonAt, Mesh, sideStart, sideEnd, placeOf}
 use Rattle.rules.specs.Merge.{mergeAll}
