@@ -351,6 +351,14 @@ examples =
     builds (contour 12 0 (v 0 1 ∷ v 1 2 ∷ v 3 3 ∷ v 2 1 ∷ v 0 0 ∷ v 2 0 ∷ v 3 3 ∷ v 2 1 ∷ v 0 0 ∷ []))
     (mesh (at 0 1 ∷ at 1 2 ∷ at 3 3 ∷ at 2 1 ∷ at 0 0 ∷ at 2 0 ∷ []) (poly (0 ∷ 1 ∷ 2 ∷ 3 ∷ 4 ∷ 2 ∷ 3 ∷ 4 ∷ []) ∷ poly (three 4 5 2) ∷ [])
     ((none ∷ none ∷ none ∷ none ∷ 1 ∷ none ∷ none ∷ none ∷ []) ∷ three none none 0 ∷ []) (minus 4)) ∷
+    -- R4: the sides chosen run the same way, and the pair is off, though another pair of sides would serve
+    builds (contour 7 0 (v 2 1 ∷ v 0 0 ∷ v 0 1 ∷ v 1 2 ∷ v 3 1 ∷ v 0 0 ∷ v 0 1 ∷ v 1 2 ∷ []))
+    (mesh (at 2 1 ∷ at 0 0 ∷ at 0 1 ∷ at 1 2 ∷ at 3 1 ∷ []) (poly (four 0 1 2 3) ∷ poly (1 ∷ 0 ∷ 2 ∷ 3 ∷ 4 ∷ []) ∷ poly (three 1 2 0) ∷ [])
+    (four none none none none ∷ (2 ∷ 2 ∷ none ∷ none ∷ none ∷ []) ∷ three none 1 1 ∷ []) (minus 10)) ∷
+    -- R4: of several such sides the first of b
+    builds (contour 8 0 (v 0 0 ∷ v 0 1 ∷ v 1 2 ∷ v 2 2 ∷ v 0 0 ∷ v 3 0 ∷ v 1 2 ∷ v 0 0 ∷ v 2 2 ∷ v 3 0 ∷ []))
+    (mesh (at 0 0 ∷ at 0 1 ∷ at 1 2 ∷ at 2 2 ∷ at 3 0 ∷ []) (poly (2 ∷ 0 ∷ 3 ∷ 4 ∷ 2 ∷ 3 ∷ 0 ∷ 1 ∷ []) ∷ poly (three 0 2 2) ∷ poly (three 2 0 2) ∷ [])
+    ((2 ∷ none ∷ none ∷ none ∷ none ∷ none ∷ none ∷ none ∷ []) ∷ three 2 none none ∷ three 1 0 none ∷ []) (minus 3)) ∷
     -- R4: the last polygon moves to b's place
     builds (contour 4 0 (v 0 0 ∷ v 0 0 ∷ v 0 1 ∷ v 2 0 ∷ v 1 0 ∷ v 0 0 ∷ []))
     (mesh (four (at 0 0) (at 0 1) (at 2 0) (at 1 0)) (poly (four 0 1 2 3) ∷ poly (three 0 3 0) ∷ poly (three 0 0 3) ∷ [])
@@ -404,4 +412,4 @@ unfolding rules numbersOf seen ended room Holds mul ofBits
 all-hold =
     refl & refl & refl & refl & refl & refl & refl & refl & refl & refl & refl & refl & refl & refl & refl & refl & refl & refl & refl & refl &
     refl & refl & refl & refl & refl & refl & refl & refl & refl & refl & refl & refl & refl & refl & refl & refl & refl & refl & refl & refl &
-    refl & refl & refl & refl & refl & refl & refl & refl & refl & refl & refl & refl & refl & refl & refl & end
+    refl & refl & refl & refl & refl & refl & refl & refl & refl & refl & refl & refl & refl & refl & refl & refl & refl & end
