@@ -1,0 +1,8 @@
+// Layer 1: places in a ring, predicates on points, lengths and areas, the distance, and the unit. Each function's
+// result is the rules' definition of its arguments.
+pub mod ring; // the place after one and the place before it
+pub mod turn; // D, and which side of a line a point is on
+pub mod segment; // two segments cross or touch
+pub mod measure; // squared lengths, and the doubled area of a list of points
+pub mod distance; // from a point to a segment, in f32
+pub mod unit; // the cell size in millimetres
