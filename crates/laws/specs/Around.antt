@@ -1,5 +1,6 @@
 -- R5, the polygons around a vertex: their untouched sides have their area as seen from the vertex, and are two fewer than their corners; those that go and
 -- those that stay are all of them. Assumes nothing.
+-- Key: `took-out`: those that go and those that stay are all polygons; `area-untouched`, `length-untouched`: what their sides have.
 use Prim.Native.Nat.{ℕ, zero, suc, _+_, _-_, _≤_, _<_}
 use native.Mathlib.Omega.{arith}
 use native.Mathlib.Numerals.{add-one}

@@ -1,4 +1,5 @@
 -- Of every job that is built, ground is neither lost nor cut twice. Assumes nothing.
+-- Key: `balanced`: areas and corners of a mesh that is built, against the log; `bounded`: it has at most T polygons and V vertices, and is sound.
 use Prim.Native.Nat.{ℕ, zero, suc, _+_, _^_, _≤_, _<_}
 use native.Mathlib.Omega.{arith}
 use mathlib.Core.Path.{_≡_, refl, sym, _∙_, ap}

@@ -1,4 +1,5 @@
 -- Replies 1 to 6: what is known of a job that passes the checks, and its counts. Assumes nothing.
+-- Key: `checked`: what is known of a job that passes; `T-far-below-V`: T is 0, or smaller than V by two.
 use Prim.Native.Nat.{ℕ, zero, suc, _+_, _-_, _≤_, _<_}
 use native.Mathlib.Omega.{arith}
 use mathlib.Core.Path.{_≡_, refl}

@@ -1,4 +1,5 @@
 -- The contours: each adds its area and its length minus 2 spare corners to the mesh, whose other polygons keep theirs. Assumes nothing.
+-- Key: `contour-added` for one contour, `contours-added` for all; `contour-corners`: its polygons' corners.
 use Prim.Native.Nat.{ℕ, zero, suc, _+_, _-_, _^_, _≤_, _<_}
 use native.Mathlib.Omega.{arith}
 use native.Mathlib.Numerals.{add-one}

@@ -1,5 +1,6 @@
 -- The two exact cases of the distance that `rules` states. A difference of equal whole numbers is +0, a finite value times a zero is a zero, and so the
 -- step along the segment is a zero whatever the segment is. Assumes nothing.
+-- Key: `first-end`, `nine`.
 use mathlib.Core.Path.{_≡_, refl, sym, ap, _∙_, subst}
 use mathlib.Core.Bool.{Bool, true, false, not, cond, true≢false}
 use Prim.Native.Nat.{ℕ, zero, suc, _+_, _-_, _*_, _^_, _≤_, _<_}

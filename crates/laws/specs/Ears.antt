@@ -1,4 +1,5 @@
 -- R2: the triangles that are cut have the area of the points, they are n - 2, and their numbers are below n. Assumes nothing.
+-- Key: `triangulated`: of three or more points that are cut, the triangles have their area, are two fewer, and name places below their number.
 use Prim.Native.Nat.{ℕ, zero, suc, _+_, _-_, _^_, _≤_, _<_}
 use native.Mathlib.Omega.{arith}
 use mathlib.Core.Path.{_≡_, refl, sym, _∙_, ap}

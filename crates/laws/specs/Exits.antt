@@ -1,5 +1,6 @@
 -- What a build wrote reads back as its mesh: what `rules` states in its file `Exits`. Each polygon's words are a block of nvp, and its corners, none of which
 -- is 65,535, end where the first 65,535 stands. Assumes nothing.
+-- Key: `reads-back`.
 use Prim.Native.Nat.{ℕ, zero, suc, _+_, _-_, _*_, _≤_, _<_}
 use native.Mathlib.Nat.{zero-add, mul-le-mul-right, le-trans}
 use native.Mathlib.Omega.{arith}

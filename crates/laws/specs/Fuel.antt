@@ -1,5 +1,6 @@
 -- The rules' loops, with the fuel that they are given, take every turn that their sentences ask for: what `rules` states in its file `Fuel`. Each turn of a
 -- loop lowers what is left by one, and so the fuel is always what is left. Assumes nothing.
+-- Key: `fuel-suffices`.
 use mathlib.Core.Path.{_≡_, refl, sym, ap, subst, _∙_}
 use mathlib.Core.Bool.{Bool, true, false}
 use mathlib.Core.Logic.{_⊎_, inl, inr, ⊎-elim}

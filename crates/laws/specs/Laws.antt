@@ -1,4 +1,5 @@
 -- Demand 3, as `rules` states it: of every job that is built, ground is neither lost nor cut twice; and the corners add up. Assumes nothing.
+-- Key: `area-law`, `contour-corner-law`, `removal-corner-law`, `corner-law`.
 use Prim.Native.Nat.{ℕ, _-_, _≤_}
 use native.Mathlib.Omega.{arith}
 use mathlib.Core.Path.{_≡_, refl, ap₂}

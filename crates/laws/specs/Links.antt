@@ -1,4 +1,5 @@
 -- R6 and R7: a link is the number of a polygon, none, or a portal; and there is one for each side. Assumes nothing.
+-- Key: `links-up-to`, `portals-up-to`: how great a link is; `links-shaped`, `portals-shaped`: one for each side.
 use Prim.Native.Nat.{ℕ, zero, suc, _≤_, _<_}
 use native.Mathlib.Omega.{arith}
 use mathlib.Core.Path.{_≡_, refl, sym, _∙_, ap}

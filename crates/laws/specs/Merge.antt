@@ -1,4 +1,5 @@
 -- R4: a join cancels a side and its opposite, so merging keeps the area and the corners over two; the pair that is joined is in range. Assumes nothing.
+-- Key: `merged`: the polygons at the end have the area and the corners beyond two of those at the start, and are stored polygons; `best-in`: the pair is in range.
 use Prim.Native.Nat.{ℕ, zero, suc, _+_, _-_, _%_, _≤_, _<_}
 use native.Mathlib.Omega.{arith}
 use native.Mathlib.Nat.{mod-eq-of-lt, add-zero}

@@ -1,5 +1,6 @@
 -- What holds of the empty mesh, and is kept by every contour and every removal, holds of every mesh that is built; and its links are those of R6 and R7.
 -- Assumes nothing.
+-- Key: `reached`, with which a property goes through the whole build; `built-links`, `built-passed`.
 use Prim.Native.Nat.{ℕ, zero, suc, _+_}
 use native.Mathlib.Omega.{arith}
 use mathlib.Core.Path.{_≡_, refl, sym, ap, _∙_, subst}

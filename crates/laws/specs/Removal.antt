@@ -1,5 +1,6 @@
 -- R5: a removal takes from the area what the open hole's last side cuts off, D(last, removed, first), and nothing if the hole closes; and of the corners
 -- beyond two it takes 1, or 2 if the hole closes. Assumes nothing.
+-- Key: `removed-ok` for areas and ranges, `corners-removed` for corners; `hole-room`: a hole has three points or more.
 use Prim.Native.Nat.{ℕ, suc, _+_, _-_, _^_, _≤_, _<_}
 use native.Mathlib.Omega.{arith}
 use mathlib.Core.Path.{_≡_, refl, sym, _∙_, ap, ap₂}

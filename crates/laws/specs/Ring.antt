@@ -1,4 +1,5 @@
 -- Places in a ring: the next one and the one before; and the corner that goes when an ear is cut. Assumes nothing.
+-- Key: `area-without`: the area of a list is that of the triangle at any place and of the list without the place after it.
 use Prim.Native.Nat.{ℕ, zero, suc, _+_, _-_, _%_, _≤_, _<_}
 use native.Mathlib.Nat.{mod-eq-of-lt, mod-eq-sub-mod}
 use native.Mathlib.Omega.{arith}

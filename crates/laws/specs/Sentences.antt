@@ -1,5 +1,6 @@
 -- Where a definition of the rules takes another way than its sentence, the two come to the same: what `rules` states in its file `Sentences`.
 -- Assumes nothing.
+-- Key: `next-is-remainder`, `prev-is-remainder`, `same-bucket`.
 use mathlib.Core.Path.{ap, ap₂}
 use Rattle.rules.specs.Weld.{bucket}
 use Rattle.rules.specs.Sentences.{NextIsRemainder, PrevIsRemainder, SameBucket}

@@ -1,4 +1,5 @@
 -- R5, the walk: the chain and the sides that are left are, together, always the same sides. Assumes nothing.
+-- Key: `walked`: points and sides left are as many as before, and so is any sum over sides.
 use Prim.Native.Nat.{ℕ, zero, suc, _+_, _-_, _<_}
 use native.Mathlib.Omega.{arith}
 use mathlib.Core.Path.{_≡_, refl, sym, _∙_, ap}

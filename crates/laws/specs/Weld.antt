@@ -1,5 +1,6 @@
 -- R3: a vertex's number always refers to its own x and z, vertices that are there keep their number and place, and new ones are the contour's own.
 -- Assumes nothing.
+-- Key: `welded`: after a contour the old vertices are there, the new ones are the contour's, and every number stands where its vertex stood.
 use Prim.Native.Nat.{ℕ, zero, suc, _+_, _≤_, _<_}
 use native.Mathlib.Omega.{arith}
 use native.Mathlib.Numerals.{add-one}

@@ -1,5 +1,6 @@
 -- What a build writes fits the words of its buffers: what `rules` states in its file `Widths`. Numbers, regions and codes of the mesh are the job's own or 0,
 -- corners are numbers of vertices, and links are numbers of polygons, none, or portals. Assumes nothing.
+-- Key: `written-fits`, `always-room`.
 use Prim.Native.Nat.{ℕ, zero, suc, _+_, _-_, _^_, _≤_, _<_}
 use native.Mathlib.Omega.{arith}
 use mathlib.Core.Path.{_≡_}
