@@ -8,11 +8,10 @@ use native.Mathlib.Omega.{arith}
 use lib.Dec.{ltb}
 use lib.ListN.{length, take, drop, getD, set, length-append, length-set, length-drop, drop-of-length-le}
 use lib.Seq.{take-all}
-use Rattle.mem.specs.Slice.{view, splice, length-splice, splice-one, splice-view, splice-inside, splice-append, splice-over, splice-snoc, splice-eq}
-use Rattle.mem.specs.Slice.{splice-nil, take-splice, view-before, view-same, view-snoc, length-view, getD-view, getD-splice-above, write-step, lent}
+use Rattle.mem.specs.Slice.{view, splice, set-part, length-splice, splice-one, splice-view, splice-append, splice-over, splice-snoc, splice-eq}
+use Rattle.mem.specs.Slice.{splice-nil, take-splice, view-before, view-same, view-snoc, length-view, getD-view, getD-splice-above, write-step}
 use Rattle.mem.specs.Packed.{splice-first}
 use Rattle.mem.specs.Loops.{Doing, doing-more, doing-end}
-use Rattle.mem.specs.Tab.{tab, length-tab, Filled, filled-all}
 use Rattle.rules.specs.Lists.{next, prev, without}
 use Rattle.rules.specs.Diagonal.{isDiagonal}
 use Rattle.rules.specs.Ears.{indexOf, pointAt, withMark, remark, markFrom, markAll, remarkGap, triangleAt, cutEar}
@@ -63,13 +62,6 @@ module _ (v : List ℕ) {w : List ℕ} (a m : ℕ) (xs : List ℕ) (e : w ≡ sp
   only-again g k q = put-again v a m xs [] alone n fits g k q ∙ ap (splice v a) (append-nil (g (take a v) xs))
 
 -- ---- one word is marked
-set-part : (w : List ℕ) (a m k x : ℕ) → k < m → a + m ≤ length w → set w (a + k) x ≡ splice w a (set (view w a m) k x)
-set-part w a m k x h f =
-    sym (splice-one w (a + k) x)
-    ∙ ap (λ (l : List ℕ). splice l (a + k) (x ∷ [])) (sym (splice-view w a m))
-    ∙ splice-inside w a k (view w a m) (x ∷ []) (omega (arith, length-view w a m f))
-    ∙ ap (splice w a) (splice-one (view w a m) k x)
-
 pub marked : (w : List ℕ) (a m i j k : ℕ) {on : Bool} {x : ℕ} → a + m ≤ length w → k < m
     → on ≡ isDiagonal Strict (pointAt (pointsIn (take a w)) (view w a m)) m i j → x ≡ withMark on (getD w (a + k) 0)
     → set w (a + k) x ≡ splice w a (remark (pointsIn (take a w)) i j k (view w a m))
@@ -238,21 +230,3 @@ triangle-put w a m i t {i1} {i2} {x} {y} {z} f h p q ex ey ez =
       ← ey,
       ← ez,
     ) (put-three w t x y z)
-
--- ---- a whole slice is written
-splice-whole : (v xs : List ℕ) → length xs ≡ length v → splice v 0 xs ≡ xs
-splice-whole v xs e =
-    splice-eq v 0 xs (omega arith) ∙ rw (drop-of-length-le v {i = 0 + length xs} (omega arith)) (append-nil xs)
-
-pub filled-whole : {v w : List ℕ} {f : ℕ → ℕ} {i : ℕ} → Filled v 0 f (length v) w i → length v ≤ i → w ≡ tab f (length v)
-filled-whole {v} {f} r h = filled-all r h ∙ splice-whole v (tab f (length v)) (length-tab f (length v))
-
--- ---- a part is lent, n of its words being written a + m - a, and comes back as what the callee makes of it
-pub lent-part : (f : List ℕ → List ℕ) (w ys : List ℕ) (a m n : ℕ) → n ≡ m → ys ≡ f (view w a n) → length ys ≡ length (view w a n) → a + m ≤ length w
-    → take a w ++ (ys ++ drop n (drop a w)) ≡ splice w a (f (view w a m))
-lent-part f w ys a m n e q k h = lent w a n ys (f (view w a n)) q k (omega arith) ∙ ap (λ (j : ℕ). splice w a (f (view w a j))) e
-
--- the same, where what comes back depends on how many words were lent
-pub lent-sized : (g : ℕ → List ℕ) (w ys : List ℕ) (a m n : ℕ) → n ≡ m → ys ≡ g (length (view w a n)) → length ys ≡ length (view w a n)
-    → a + m ≤ length w → take a w ++ (ys ++ drop n (drop a w)) ≡ splice w a (g m)
-lent-sized g w ys a m n e q k h = lent-part (λ l. g (length l)) w ys a m n e q k h ∙ ap (λ (j : ℕ). splice w a (g j)) (length-view w a m h)

@@ -7,7 +7,7 @@ use borrow.Author.Needs.{needs}
 use lib.ListN.{length}
 use Rattle.mem.specs.Tab.{Filled, filled-none, filled-more}
 use Rattle.rules.specs.Ears.{indices}
-use Rattle.ears.proofs.Parts.{filled-whole}
+use Rattle.mem.specs.Tab.{filled-whole}
 use Rattle.ears.proofs.cut.count_up.Statement.{statement}
 use Rattle.ears.proofs.cut.count_up.Tie as tie
 

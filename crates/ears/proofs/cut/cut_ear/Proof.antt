@@ -13,7 +13,8 @@ use Rattle.mem.specs.Slice.{view, splice, length-view}
 use Rattle.rules.specs.Lists.{without}
 use Rattle.laws.specs.Ring.{next-below}
 use Rattle.ears.proofs.Rings.{prev-below}
-use Rattle.ears.proofs.Parts.{lent-part, gap-ready, ear-cut}
+use Rattle.ears.proofs.Parts.{gap-ready, ear-cut}
+use Rattle.mem.specs.Slice.{lent-part}
 use Rattle.ears.proofs.cut.cut_ear.Statement.{statement}
 use Rattle.ears.proofs.cut.cut_ear.Tie as tie
 

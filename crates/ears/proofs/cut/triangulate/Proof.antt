@@ -8,7 +8,7 @@ use borrow.Author.Needs.{needs}
 use lib.ListN.{length, take, drop, replicate}
 use Rattle.mem.specs.Slice.{splice, length-splice}
 use Rattle.rules.specs.Ears.{indices}
-use Rattle.ears.proofs.Parts.{lent-sized}
+use Rattle.mem.specs.Slice.{lent-sized}
 use Rattle.ears.proofs.Cuts.{counted-ready, marked-ready, answered, done-words, stuck-words}
 use Rattle.ears.proofs.cut.triangulate.Statement.{statement}
 use Rattle.ears.proofs.cut.triangulate.Tie as tie

@@ -6,7 +6,7 @@ use native.Mathlib.Omega.{arith}
 use borrow.Author.Needs.{needs}
 use lib.ListN.{length}
 use Rattle.mem.specs.Tab.{Filled, filled-none, filled-more, tab-const}
-use Rattle.ears.proofs.Parts.{filled-whole}
+use Rattle.mem.specs.Tab.{filled-whole}
 use Rattle.ears.proofs.cut.wipe.Statement.{statement}
 use Rattle.ears.proofs.cut.wipe.Tie as tie
 
