@@ -1,0 +1,3 @@
+// The records of the work buffer: how many words each has, and how one is read and written.
+pub mod vertex; // a vertex with its mark
+pub mod polygon; // a polygon, and a list of them
