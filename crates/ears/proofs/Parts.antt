@@ -8,7 +8,7 @@ use native.Mathlib.Omega.{arith}
 use lib.Dec.{ltb}
 use lib.ListN.{length, take, drop, getD, set, length-append, length-set, length-drop, drop-of-length-le}
 use lib.Seq.{take-all}
-use Rattle.mem.specs.Slice.{view, splice, set-part, length-splice, splice-one, splice-view, splice-append, splice-over, splice-snoc, splice-eq}
+use Rattle.mem.specs.Slice.{view, splice, set-part, setEach, stored-each, length-splice, splice-view, splice-append, splice-over, splice-eq}
 use Rattle.mem.specs.Slice.{splice-nil, take-splice, view-before, view-same, view-snoc, length-view, getD-view, getD-splice-above, write-step}
 use Rattle.mem.specs.Packed.{splice-first}
 use Rattle.mem.specs.Loops.{Doing, doing-more, doing-end}
@@ -208,9 +208,8 @@ module _ (v : List ℕ) {w : List ℕ} (a m i : ℕ) {k : ℕ} (r : Ready a m v)
 
 -- ---- a triangle
 put-three : (w : List ℕ) (t x y z : ℕ) → set (set (set w t x) (t + 1) y) (t + 2) z ≡ splice w t (x ∷ y ∷ z ∷ [])
-put-three w t x y z =
-    ap (λ (l : List ℕ). set (set l (t + 1) y) (t + 2) z) (sym (splice-one w t x))
-    ∙ ap (λ (l : List ℕ). set l (t + 2) z) (splice-snoc w t (x ∷ []) y) ∙ splice-snoc w t (x ∷ y ∷ []) z
+unfolding setEach
+put-three w t x y z = stored-each w t x (y ∷ z ∷ [])
 
 pub triangle-put : (w : List ℕ) (a m i t : ℕ) {i1 i2 x y z : ℕ} → a + m ≤ length w → i < m → i1 ≡ next i m → i2 ≡ next i1 m
     → x ≡ indexOf (getD w (a + i) 0) → y ≡ indexOf (getD w (a + i1) 0) → z ≡ indexOf (getD w (a + i2) 0)

@@ -24,7 +24,7 @@ use Rattle.rules.specs.Checks.{Lent, vertexStride, leastLengths, lengthsOf}
 use Rattle.rules.specs.Build.{built, outcome}
 use Rattle.rules.specs.Exits.{vertexWords, padded, cornerWords, filled, exitOf, exits, Stored, vertexOf, upToNone, storedPolygon, storedLinks, decoded, ReadsBack}
 use Rattle.laws.specs.Lists
-use Rattle.laws.specs.Lists.{All, all-at, all-imp, getD-map-in}
+use Rattle.laws.specs.Lists.{All, all-at, all-imp, every-of-all, getD-map-in}
 use Rattle.laws.specs.Merge.{Good, Below}
 use Rattle.laws.specs.Checks.{Passed}
 use Rattle.laws.specs.Build.{Bounded, bounded}
@@ -32,12 +32,6 @@ use Rattle.laws.specs.Links.{Shaped, links-shaped, portals-shaped}
 use Rattle.laws.specs.Reached.{built-links, built-passed}
 
 -- ---- lists
-
-every-of-all : {A : Type 0} (P : A → Type 0) (d : A) {l : List A} → P d → All P l → Every P d l
-unfolding Every
-every-of-all P d p Lists.none i = p
-every-of-all P d p (Lists.more h a) zero = h
-every-of-all P d p (Lists.more h a) (suc i) = every-of-all P d p a i
 
 -- a list that is what it holds at each place
 tab-list : {A : Type 0} (f : ℕ → A) (l : List A) (d : A) → ((i : ℕ) → i < length l → f i ≡ getD l i d) → tab f (length l) ≡ l

@@ -9,6 +9,7 @@ use lib.Seq.{take-suc, take-all, take-at, set-append-left, set-at, getD-at}
 use lib.IntN.{ℤ, _+ℤ_, +ℤ-idl, +ℤ-assoc}
 use Rattle.ints.specs.Ring.{at, _⊕_, is-eq}
 use Rattle.mem.specs.Cases.{lt-or-le}
+use Rattle.mem.specs.Packed.{Every}
 use Rattle.rules.specs.Lists.{swapRemove, without}
 use Rattle.rules.specs.Areas.{sumOf}
 
@@ -73,6 +74,13 @@ all-both f (more {a} p h) k = more (f a p (all-head k)) (all-both f h (all-tail 
 pub all-map : {A B : Type 0} {P : A → Type 0} {Q : B → Type 0} (f : A → B) {l : List A} → ((a : A) → P a → Q (f a)) → All P l → All Q (map f l)
 all-map f g none = none
 all-map f g (more {a} p h) = more (g a p) (all-map f g h)
+
+-- with what stands past the end
+pub every-of-all : {A : Type 0} (P : A → Type 0) (d : A) {l : List A} → P d → All P l → Every P d l
+unfolding Every
+every-of-all P d p none i = p
+every-of-all P d p (more h a) zero = h
+every-of-all P d p (more h a) (suc i) = every-of-all P d p a i
 
 -- ---- maps
 module _ {A B : Type 0} where

@@ -138,6 +138,11 @@ shared-in : (a b : List ℕ) → SidesIn (length a) (length b) (sharedSide a b)
 unfolding sharedSide
 shared-in a b = down-in a b (length a) (omega arith)
 
+-- the sides that are shared are sides of both
+pub shared-at : (a b : List ℕ) (i j : ℕ) → Sides i j ≡ sharedSide a b → (i < length a) × (j < length b)
+unfolding SidesIn
+shared-at a b i j e = rw (← e) at (shared-in a b)
+
 no-pair : (nvp : ℕ) (ps : List Polygon) → JoinableIf nvp ps noPair
 unfolding JoinableIf
 no-pair nvp ps = λ h. absurd (omega arith)

@@ -15,15 +15,16 @@ use lib.ListN.{length, getD, set, length-append, length-set, List·getD-append}
 use lib.Seq.{getD-at}
 use Rattle.ints.specs.Bools.{and-left, and-right}
 use Rattle.mem.specs.Loops.{each-at}
+use Rattle.mem.specs.Packed.{every-at, every-of, every-append}
 use Rattle.rules.specs.declared.Vertex.{Vertex}
 use Rattle.rules.specs.declared.Found.{Found}
 use Rattle.rules.specs.declared.Found.the-variants.{At, Nothing}
-use Rattle.rules.specs.Plane.{onPlane}
+use Rattle.rules.specs.Plane.{onPlane, InGrid}
 use Rattle.rules.specs.Lists.{when, orElse, down, apart}
 use Rattle.rules.specs.Weld.{noVertex, isSame, highestBelow, numberOr, numberOf, Welded, flagged, addVertex, weldOne, weldAll}
 use Rattle.rules.specs.Mesh.{placeOf}
 use Rattle.laws.specs.Lists
-use Rattle.laws.specs.Lists.{All, all-append, all-imp}
+use Rattle.laws.specs.Lists.{All, all-append, all-imp, every-of-all}
 
 -- ---- the number that a vertex takes
 -- number n of the vertices vs stands where v stands
@@ -54,6 +55,11 @@ module _ (height : ℕ) (vs : List Vertex) (v : Vertex) where
   unfolding Fits highestBelow down
   fits zero = tt
   fits (suc n) = fits-or n (isSame height (getD vs n noVertex) v) (highestBelow height vs v n) refl (fits n)
+
+  -- what is found is below n
+  pub found-below : (n k : ℕ) → At k ≡ highestBelow height vs v n → k < n
+  unfolding Fits
+  found-below n k e = (rw (← e) at (fits n)) .0
 
   number-from : (r : Found) → Fits (length vs) r → Took vs (numberOr (length vs) r) v ⊎ (numberOr (length vs) r ≡ length vs)
   unfolding Fits numberOr placeOf
@@ -177,3 +183,18 @@ welded height vs flags s m e = each-at (weldOne height vs flags) (Welds (s .vert
       took = λ k h. absurd (omega arith);
       marked = m;
     })
+
+-- ---- vertices on the grid stay there: a new vertex is one of the contour's
+pub welded-grid : (height : ℕ) (vs : List Vertex) (flags : List ℕ) (s : Welded) → length (s .marks) ≡ length (s .vertices) → s .numbers ≡ []
+    → ((k : ℕ) → InGrid (placeOf (s .vertices) k)) → ((k : ℕ) → k < length vs → InGrid (onPlane (getD vs k noVertex)))
+    → (k : ℕ) → InGrid (placeOf (weldAll height vs flags s .vertices) k)
+unfolding placeOf
+welded-grid height vs flags s m e old new k =
+    let w = welded height vs flags s m e in
+    rw (w .grown) (every-at On noVertex (s .vertices ++ w .more)
+    (every-append On noVertex (s .vertices) (w .more) (every-of On noVertex (s .vertices) old)
+    (every-of-all On noVertex (record { x-small = omega arith; z-small = omega arith })
+    (all-imp (λ u (o : OneOf vs (length vs) u). rw (o .is) (new (o .place) (o .below))) (w .fresh)))) k)
+  where
+    On : Vertex → Type 0
+    On v = InGrid (onPlane v)

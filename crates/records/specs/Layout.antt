@@ -11,6 +11,9 @@ use Rattle.rules.specs.Weld.{noVertex}
 use Rattle.rules.specs.Mesh.{Polygon, placeOf}
 use Rattle.rules.specs.Exits.{padded}
 use Rattle.rules.specs.declared.Vertex.{Vertex}
+use Rattle.rules.specs.declared.Side.{Side}
+use Rattle.rules.specs.declared.ChainPoint.{ChainPoint}
+use Rattle.rules.specs.declared.Edge.{Edge}
 
 -- ---- a vertex: x, y, z, its mark, and a word that is kept for where it came from
 abbrev pub vertexSize : ℕ
@@ -84,3 +87,58 @@ Small p = length (p .corners) ≤ mostCorners
 -- the np records at o are just those of the polygons that they hold: 65,535 behind the last corner, and zeros in the words that are kept
 pub record Tidy (w : List ℕ) (o np : ℕ) : Type 0 where
   pub is : w ≡ splice w o (polygonRecords (polygonsAt w o np))
+
+-- ---- a side of a removal: where it starts, where it ends, its polygon's region and area code
+abbrev pub sideSize : ℕ
+sideSize = 4
+
+unfoldable pub sideIn : List ℕ → Side
+sideIn ws = record { start = getD ws 0 0; end = getD ws 1 0; region = getD ws 2 0; code = getD ws 3 0 }
+
+unfoldable pub sideWords : Side → List ℕ
+sideWords s = s .start ∷ s .end ∷ s .region ∷ s .code ∷ []
+
+-- the n sides from o on, and the words of a list of them
+unfoldable pub sidesAt : List ℕ → ℕ → ℕ → List Side
+sidesAt w o n = blocks sideIn w o sideSize n
+
+unfoldable pub sideRecords : List Side → List ℕ
+sideRecords ss = packed sideWords ss
+
+-- ---- a point of the chain: its vertex, and the region and area code of the side that brought it
+abbrev pub pointSize : ℕ
+pointSize = 3
+
+unfoldable pub pointIn : List ℕ → ChainPoint
+pointIn ws = record { vertex = getD ws 0 0; region = getD ws 1 0; code = getD ws 2 0 }
+
+unfoldable pub pointWords : ChainPoint → List ℕ
+pointWords c = c .vertex ∷ c .region ∷ c .code ∷ []
+
+-- the n points from o on, and the words of a list of them
+unfoldable pub pointsAt : List ℕ → ℕ → ℕ → List ChainPoint
+pointsAt w o n = blocks pointIn w o pointSize n
+
+unfoldable pub pointRecords : List ChainPoint → List ℕ
+pointRecords cs = packed pointWords cs
+
+-- ---- an edge: its lower and its higher vertex, its polygon and which side of it, the other polygon and which side of that
+abbrev pub edgeSize : ℕ
+edgeSize = 6
+
+unfoldable pub edgeIn : List ℕ → Edge
+edgeIn ws = record { low = getD ws 0 0; high = getD ws 1 0; poly = getD ws 2 0; side = getD ws 3 0; other = getD ws 4 0; at = getD ws 5 0 }
+
+unfoldable pub edgeWords : Edge → List ℕ
+edgeWords e = e .low ∷ e .high ∷ e .poly ∷ e .side ∷ e .other ∷ e .at ∷ []
+
+-- the n edges from o on, and the words of a list of them
+unfoldable pub edgesAt : List ℕ → ℕ → ℕ → List Edge
+edgesAt w o n = blocks edgeIn w o edgeSize n
+
+unfoldable pub edgeRecords : List Edge → List ℕ
+edgeRecords es = packed edgeWords es
+
+-- ---- a polygon's links: one word a corner
+abbrev pub linkSize : ℕ
+linkSize = mostCorners

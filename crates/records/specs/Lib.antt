@@ -5,3 +5,4 @@ pub mod Values
 -- what is stored is what is loaded: laws of the records
 pub mod Vertices
 pub mod Polygons
+pub mod Fixed

@@ -7,9 +7,9 @@ use native.Mathlib.Omega.{arith}
 use native.Mathlib.Nat.{add-zero, zero-add, sub-zero, zero-sub, suc-sub-suc}
 use lib.ListN.{length, take, drop, getD, set, replicate, length-append, length-set, length-replicate, length-take, length-drop}
 use lib.Seq.{take-all, take-at, take-append-le, take-suc-set, length-take-le, getD-take}
-use Rattle.mem.specs.Slice.{view, splice, splice-over, splice-eq, length-view, view-view, getD-view, splice-one, splice-append, splice-snoc, write-step}
+use Rattle.mem.specs.Slice.{view, splice, splice-over, splice-eq, length-view, view-view, getD-view, splice-append, write-step, setEach, stored-each}
 use Rattle.mem.specs.Tab.{blocks, getD-blocks, length-blocks, Filled, filled-all, tab-view, tab-take, take-tab}
-use Rattle.mem.specs.Packed.{Every, every-at, every-set, packed, length-packed, packed-append, packed-put, unpacked}
+use Rattle.mem.specs.Packed.{Every, every-at, every-set, length-packed, packed-append, packed-put, unpacked}
 use Rattle.rules.specs.Lists.{next, swapRemove}
 use Rattle.rules.specs.Links.{none}
 use Rattle.rules.specs.Exits.{padded}
@@ -174,13 +174,11 @@ module _ (w : List ℕ) (at : ℕ) (fits : at + polygonSize ≤ length w) where
 pub stored-all : (w : List ℕ) (at : ℕ) (p : Poly) {v : List ℕ} {i : ℕ} → length (p .corners) ≡ mostCorners
     → Filled (set (set (set w at (p .n)) (at + 1) (p .region)) (at + 2) (p .code)) (at + 3) (λ k. getD (p .corners) k 0) mostCorners v i → mostCorners ≤ i
     → set (set (set v (at + 15) 0) (at + 15 + 1) 0) (at + 15 + 2) 0 ≡ splice w at (polyWords p)
-unfolding polyWords
+unfolding polyWords setEach
 stored-all w at p {v} {i} l f h =
     let xs : List ℕ = p .n ∷ p .region ∷ p .code ∷ [] in
     let e : set (set (set w at (p .n)) (at + 1) (p .region)) (at + 2) (p .code) ≡ splice w at xs =
-    ap (λ (u : List ℕ). set (set u (at + 1) (p .region)) (at + 2) (p .code)) (sym (splice-one w at (p .n)))
-    ∙ ap (λ (u : List ℕ). set u (at + 2) (p .code)) (splice-snoc w at (p .n ∷ []) (p .region))
-    ∙ splice-snoc w at (p .n ∷ p .region ∷ []) (p .code) in
+    stored-each w at (p .n) (p .region ∷ p .code ∷ []) in
     let g : v ≡ splice w at (xs ++ p .corners) =
     filled-all f h ∙ rw (e, tab-take (p .corners) mostCorners 0 (omega arith), take-all mostCorners (p .corners) (omega arith)) (splice-append w at xs (p .corners)) in
     let a : at + 15 + 1 ≡ at + 16 = omega arith in

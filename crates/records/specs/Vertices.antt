@@ -9,7 +9,7 @@ use native.Mathlib.Omega.{arith}
 use native.Mathlib.Nat.{add-zero}
 use lib.ListN.{length, getD, set, length-append, length-set, List·getD-append}
 use lib.Seq.{ext-getD, getD-set-same, getD-set-other, getD-at}
-use Rattle.mem.specs.Slice.{view, splice, getD-view, splice-one, splice-snoc, splice-view}
+use Rattle.mem.specs.Slice.{view, splice, getD-view, splice-view, setEach, stored-each}
 use Rattle.mem.specs.Tab.{tab, tab-snoc, tab-cong, length-tab, getD-tab, blocks, length-blocks, getD-blocks}
 use Rattle.mem.specs.Packed.{Every, every-of, packed, packed-append, packed-set, length-packed, packed-at}
 use Rattle.mem.specs.Cases.{eq-or-ne}
@@ -18,7 +18,7 @@ use Rattle.rules.specs.Weld.{noVertex}
 use Rattle.rules.specs.Mesh.{placeOf}
 use Rattle.rules.specs.declared.Point.{Point}
 use Rattle.rules.specs.declared.Vertex.{Vertex}
-use Rattle.records.specs.Layout.{vertexSize, markPlace, vertexIn, markIn, vertexWords, verticesAt, marksAt, Marked, markedWords, withMarks, vertexRecords, Placed}
+use Rattle.records.specs.Layout.{vertexSize, vertexIn, markIn, vertexWords, verticesAt, marksAt, Marked, markedWords, withMarks, vertexRecords, Placed}
 
 pub length-vertices : (w : List ℕ) (o n : ℕ) → length (verticesAt w o n) ≡ n
 unfolding verticesAt
@@ -58,16 +58,10 @@ module _ (w : List ℕ) (o n k : ℕ) (h : k < n) where
       (s, rw s (g .grid k))
 
 -- the five stores of a vertex
-pub stored-vertex : (w : List ℕ) (at : ℕ) (v : Vertex) (m : ℕ) {x y z : ℕ} → x ≡ v .x → y ≡ v .y → z ≡ v .z
-    → set (set (set (set (set w at x) (at + 1) y) (at + 2) z) (at + 3) m) (at + 4) 0 ≡ splice w at (vertexWords v m)
-unfolding vertexWords
-stored-vertex w at v m e f g =
-    rw (e, f, g) (
-    ap (λ (u : List ℕ). set (set (set (set u (at + 1) (v .y)) (at + 2) (v .z)) (at + 3) m) (at + 4) 0) (sym (splice-one w at (v .x)))
-    ∙ ap (λ (u : List ℕ). set (set (set u (at + 2) (v .z)) (at + 3) m) (at + 4) 0) (splice-snoc w at (v .x ∷ []) (v .y))
-    ∙ ap (λ (u : List ℕ). set (set u (at + 3) m) (at + 4) 0) (splice-snoc w at (v .x ∷ v .y ∷ []) (v .z))
-    ∙ ap (λ (u : List ℕ). set u (at + 4) 0) (splice-snoc w at (v .x ∷ v .y ∷ v .z ∷ []) m)
-    ∙ splice-snoc w at (v .x ∷ v .y ∷ v .z ∷ m ∷ []) 0)
+pub stored-vertex : (w : List ℕ) (at : ℕ) (v : Vertex) (m : ℕ)
+    → set (set (set (set (set w at (v .x)) (at + 1) (v .y)) (at + 2) (v .z)) (at + 3) m) (at + 4) 0 ≡ splice w at (vertexWords v m)
+unfolding vertexWords setEach
+stored-vertex w at v m = stored-each w at (v .x) (v .y ∷ v .z ∷ m ∷ 0 ∷ [])
 
 -- ---- the words of vertices vs with marks ms
 
@@ -148,7 +142,8 @@ module _ (w : List ℕ) (o n : ℕ) (vs : List Vertex) (ms : List ℕ) (size : l
   unfolding vertexRecords
   whole = sym (splice-view w o (n * vertexSize)) ∙ ap (splice w o) is
 
-  words-at : (k : ℕ) → k < n → view w (o + k * vertexSize) vertexSize ≡ vertexWords (getD vs k noVertex) (getD ms k 0)
+  -- the words of vertex k
+  pub words-at : (k : ℕ) → k < n → view w (o + k * vertexSize) vertexSize ≡ vertexWords (getD vs k noVertex) (getD ms k 0)
   words-at k h =
       let l : length (withMarks vs ms) ≡ n = length-with vs ms ∙ size in
       ap (λ (u : List ℕ). view u (o + k * vertexSize) vertexSize) whole

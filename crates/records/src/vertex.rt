@@ -1,7 +1,7 @@
 // A vertex of the work buffer: x, y, z, its mark, and one word that is kept for where it came from.
 ghost use mathlib.Core.Path.{_≡_};
 ghost use Prim.Native.Nat.{_+_, _≤_, _<_};
-ghost use lib.ListN.{length, getD, set};
+ghost use lib.ListN.{length};
 ghost use Rattle.mem.specs.Slice.{splice};
 ghost use Rattle.rules.specs.Plane.{InGrid};
 ghost use Rattle.rules.specs.Mesh.{placeOf};

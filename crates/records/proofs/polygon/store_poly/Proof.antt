@@ -1,4 +1,4 @@
-use lib.ListN.{length, getD, length-set}
+use lib.ListN.{getD, length-set}
 use Prim.Native.Nat.{_-_, _+_}
 use mathlib.Core.Path.{refl}
 use native.Mathlib.Omega.{arith}

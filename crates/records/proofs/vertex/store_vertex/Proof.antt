@@ -1,5 +1,4 @@
 use lib.ListN.{length-set}
-use mathlib.Core.Path.{refl}
 use native.Mathlib.Omega.{arith}
 use Rattle.records.specs.Vertices.{stored-vertex}
 use borrow.Author.Needs.{needs}
@@ -82,7 +81,7 @@ same-length c = search needs
 
 -- src/vertex.rt:18:1
 returns : tie.Need-returns
-returns c = stored-vertex _ _ _ 0 refl refl refl
+returns c = stored-vertex _ _ _ 0
 
 pub store-vertex-spec : {M : Type 1} → statement M
 store-vertex-spec =

@@ -1,0 +1,262 @@
+-- One vertex in the tables: what a new one makes of the words, what a mark does, and that both together are R3 for one vertex. Each write is the rewriting
+-- of one table. Assumes nothing.
+use mathlib.Core.Path.{_≡_, refl, sym, ap, _∙_}
+use mathlib.Core.Bool.{true, false}
+use mathlib.Core.List.{List, [], _∷_, _++_}
+use mathlib.Core.Logic.{⊎-elim, _≢_}
+use Prim.Native.Nat.{ℕ, _+_, _*_, _≤_, _<_}
+use native.Mathlib.Omega.{arith}
+use native.Mathlib.Nat.{le-refl}
+use borrow.Author.Tests.{eq-eqb, ne-eqb}
+use lib.Dec.{eqb}
+use lib.ListN.{length, getD, set, length-append, length-set, List·getD-append}
+use lib.Seq.{getD-at}
+use Rattle.mem.specs.Slice.{view, splice, splice-one, splice-view, splice-inside, splice-behind, set-part, length-splice, getD-view}
+use Rattle.mem.specs.Slice.{view-after, view-set-after, length-view}
+use Rattle.mem.specs.Loops.{block-fits}
+use Rattle.mem.specs.Cases.{eq-or-ne}
+use Rattle.mem.specs.Chain.{firsts, nexts, firsts-more, nexts-more}
+use Rattle.rules.specs.Weld.{noVertex, bucket, highestBelow, numberOr, numberOf, flagged, addVertex}
+use Rattle.rules.specs.declared.Vertex.{Vertex}
+use Rattle.rules.specs.declared.Found.the-variants.{At, Nothing}
+use Rattle.laws.specs.Weld.{found-below}
+use Rattle.records.specs.Layout.{vertexSize, markPlace, vertexWords, verticesAt, marksAt, vertexRecords}
+use Rattle.records.specs.Vertices.{length-vertices, length-marks, records-snoc, records-mark, words-at}
+use Rattle.weld.specs.declared.find.Tables.{Tables}
+use Rattle.weld.specs.Tables.{bucketCount, keyOf, tabled, Room, Tabled, Added, grown, WeldedOne}
+use Rattle.weld.specs.Standing.{bucket-below, holds-now, holds-of, even-now, same-room, length-tabled, vertices-now, marks-now, standing-now, tabled-again}
+
+five : (v : Vertex) (m : ℕ) → length (vertexWords v m) ≡ vertexSize
+unfolding vertexWords
+five v m = refl
+
+-- the words of a vertex with its mark set
+anew : (v : Vertex) (m n : ℕ) → vertexWords v n ≡ set (vertexWords v m) markPlace n
+unfolding vertexWords
+anew v m n = refl
+
+module _ (w : List ℕ) (t : Tables) (nv : ℕ) (s : Tabled w t nv) where
+  vs : List Vertex
+  vs = verticesAt w (t .vertices) nv
+
+  ms : List ℕ
+  ms = marksAt w (t .vertices) nv
+
+  many : length vs ≡ nv
+  unfolding vs
+  many = length-vertices w (t .vertices) nv
+
+  -- ---- a new vertex
+  module _ (v : Vertex) (r : Room w t (nv + 1)) where
+    b : ℕ
+    b = bucket (v .x) (v .z)
+
+    key-old : (j : ℕ) → j < length vs → keyOf vs j ≡ keyOf (vs ++ (v ∷ [])) j
+    unfolding keyOf
+    key-old j h = rw (List·getD-append vs (v ∷ []) noVertex j h) refl
+
+    key-new : keyOf (vs ++ (v ∷ [])) (length vs) ≡ b
+    unfolding keyOf b
+    key-new = rw (getD-at vs v [] noVertex (length vs) refl) refl
+
+    in-range : keyOf (vs ++ (v ∷ [])) (length vs) < bucketCount
+    unfolding b
+    in-range = rw key-new (bucket-below (v .x) (v .z))
+
+    more : length (vs ++ (v ∷ [])) ≡ length vs + 1
+    more = length-append vs (v ∷ [])
+
+    -- the bucket's first
+    first-put : splice w (t .buckets) (firsts (keyOf (vs ++ (v ∷ []))) bucketCount (length (vs ++ (v ∷ [])))) ≡ set w (t .buckets + b) (nv + 1)
+    unfolding vs ms b
+    first-put =
+        ap (λ (n : ℕ). splice w (t .buckets) (firsts (keyOf (vs ++ (v ∷ []))) bucketCount n)) more
+        ∙ ap (splice w (t .buckets)) (firsts-more (keyOf vs) (keyOf (vs ++ (v ∷ []))) bucketCount (length vs) key-old in-range
+        ∙ rw (key-new, ← holds-now s .buckets, many) refl)
+        ∙ sym (set-part w (t .buckets) bucketCount b (nv + 1) (bucket-below (v .x) (v .z)) (omega (arith, r .buckets, r .vertices, r .nexts)))
+
+    module _ (x : List ℕ) (ex : x ≡ set w (t .buckets + b) (nv + 1)) where
+      lx : length x ≡ length w
+      lx = ap length ex ∙ length-set w (t .buckets + b) (nv + 1)
+
+      low : t .buckets + b < t .vertices
+      unfolding b
+      low = omega (arith, bucket-below (v .x) (v .z), r .buckets)
+
+      seen : (o n : ℕ) → t .vertices ≤ o → view x o n ≡ view w o n
+      seen o n h = ap (λ (l : List ℕ). view l o n) ex ∙ view-set-after w (t .buckets + b) o n (nv + 1) (omega (arith, low))
+
+      -- its record
+      record-put : splice x (t .vertices) (vertexRecords (vs ++ (v ∷ [])) (ms ++ (0 ∷ []))) ≡ splice x (t .vertices + nv * vertexSize) (vertexWords v 0)
+      unfolding vs ms
+      record-put =
+          ap (splice x (t .vertices)) (records-snoc vs ms v 0 (even-now w t nv)
+          ∙ ap (λ (l : List ℕ). l ++ vertexWords v 0) (sym (seen (t .vertices) (nv * vertexSize) (omega arith) ∙ (rw many at (holds-now s .vertices)))))
+          ∙ sym (splice-behind x (t .vertices) (nv * vertexSize) (vertexWords v 0) (omega (arith, lx, r .vertices, r .nexts)))
+
+      module _ (y : List ℕ) (ey : y ≡ splice x (t .vertices + nv * vertexSize) (vertexWords v 0)) where
+        ly : length y ≡ length w
+        ly = ap length ey ∙ length-splice x (t .vertices + nv * vertexSize) (vertexWords v 0) ∙ lx
+
+        behind : view y (t .nexts) nv ≡ nexts (keyOf vs) (length vs)
+        unfolding vs ms vertexWords
+        behind =
+            ap (λ (l : List ℕ). view l (t .nexts) nv) ey
+            ∙ view-after x (t .vertices + nv * vertexSize) (t .nexts) nv (vertexWords v 0) (omega (arith, r .vertices))
+            ∙ seen (t .nexts) nv (omega (arith, r .vertices)) ∙ ap (view w (t .nexts)) (sym many) ∙ holds-now s .nexts
+
+        was : getD (firsts (keyOf vs) bucketCount (length vs)) b 0 ≡ getD w (t .buckets + b) 0
+        unfolding vs ms b
+        was = rw (← holds-now s .buckets) (getD-view w (t .buckets) bucketCount b 0 (bucket-below (v .x) (v .z)))
+
+        -- its next
+        next-put : splice y (t .nexts) (nexts (keyOf (vs ++ (v ∷ []))) (length (vs ++ (v ∷ [])))) ≡ set y (t .nexts + nv) (getD w (t .buckets + b) 0)
+        next-put =
+            ap (λ (n : ℕ). splice y (t .nexts) (nexts (keyOf (vs ++ (v ∷ []))) n)) more
+            ∙ ap (splice y (t .nexts)) (nexts-more (keyOf vs) (keyOf (vs ++ (v ∷ []))) bucketCount (length vs) key-old in-range
+            ∙ rw (key-new, was, ← behind) refl)
+            ∙ sym (splice-behind y (t .nexts) nv (getD w (t .buckets + b) 0 ∷ []) (omega (arith, ly, r .nexts)))
+            ∙ splice-one y (t .nexts + nv) (getD w (t .buckets + b) 0)
+
+    -- the steps of `put_vertex`: h is the bucket, y the buffer once the record is stored
+    pub put-steps : {h n : ℕ} {y : List ℕ} → h ≡ bucket (v .x) (v .z) → n ≡ nv + 1
+        → y ≡ splice (set w (t .buckets + h) n) (t .vertices + nv * vertexSize) (vertexWords v 0)
+        → set y (t .nexts + nv) (getD w (t .buckets + h) 0)
+        ≡ tabled w t (verticesAt w (t .vertices) nv ++ (v ∷ [])) (marksAt w (t .vertices) nv ++ (0 ∷ []))
+    unfolding tabled vs ms b
+    put-steps {h} {n} {y} eh en ey =
+        let x = set w (t .buckets + b) (nv + 1) in
+        let e : y ≡ splice x (t .vertices + nv * vertexSize) (vertexWords v 0) =
+        ey ∙ rw (eh, en) refl in
+        rw (first-put, record-put x refl, ← e) (rw eh (sym (next-put x refl y e)))
+
+  -- ---- a mark
+  module _ (k : ℕ) (h : k < nv) where
+    at : ℕ
+    at = t .vertices + k * vertexSize
+
+    fits : t .vertices + nv * vertexSize ≤ length w
+    fits = omega (arith, s .room .vertices, s .room .nexts)
+
+    room : k * vertexSize + vertexSize ≤ nv * vertexSize
+    room = block-fits k nv vertexSize (nv * vertexSize) h (le-refl (nv * vertexSize))
+
+    record-marked : splice w (t .vertices) (vertexRecords vs (set ms k 1)) ≡ set w (t .vertices + k * vertexSize + markPlace) 1
+    unfolding vs ms
+    record-marked =
+        let e : view w (t .vertices) (nv * vertexSize) ≡ vertexRecords vs ms = rw many at (holds-now s .vertices) in
+        let a = t .vertices + k * vertexSize in
+        ap (splice w (t .vertices)) (sym (records-mark vs ms k 1 (even-now w t nv) (rw many h)) ∙ ap (λ (l : List ℕ). splice l (k * vertexSize) (vertexWords (getD vs k noVertex) 1)) (sym e))
+        ∙ sym (splice-inside w (t .vertices) (k * vertexSize) (view w (t .vertices) (nv * vertexSize)) (vertexWords (getD vs k noVertex) 1)
+        (rw (length-view w (t .vertices) (nv * vertexSize) fits) (omega (arith, room, five (getD vs k noVertex) 1))))
+        ∙ ap (λ (l : List ℕ). splice l a (vertexWords (getD vs k noVertex) 1)) (splice-view w (t .vertices) (nv * vertexSize))
+        ∙ ap (splice w a) (anew (getD vs k noVertex) (getD ms k 0) 1 ∙ ap (λ (l : List ℕ). set l markPlace 1) (sym (words-at w (t .vertices) nv vs ms many fits e k h)))
+        ∙ sym (set-part w a vertexSize markPlace 1 (omega arith) (omega (arith, room, fits)))
+
+    pub mark-steps : set w (t .vertices + k * vertexSize + markPlace) 1 ≡ tabled w t (verticesAt w (t .vertices) nv) (set (marksAt w (t .vertices) nv) k 1)
+    unfolding tabled vs ms
+    mark-steps =
+        let a = t .vertices + k * vertexSize + markPlace in
+        let x = set w a 1 in
+        let e : view x (t .nexts) (length vs) ≡ nexts (keyOf vs) (length vs) =
+        view-set-after w a (t .nexts) (length vs) 1 (omega (arith, room, s .room .vertices)) ∙ holds-now s .nexts in
+        rw (← holds-now s .buckets, splice-view w (t .buckets) bucketCount, record-marked, ← e) (sym (splice-view x (t .nexts) (length vs)))
+
+  -- the mark where the flag is set
+  pub flag-set : (k flag : ℕ) → k < nv → flag ≡ 1 → set w (t .vertices + k * vertexSize + markPlace) 1
+      ≡ tabled w t (verticesAt w (t .vertices) nv) (flagged flag k (marksAt w (t .vertices) nv))
+  unfolding flagged
+  flag-set k flag h e = rw (eq-eqb flag 1 e) (mark-steps k h)
+
+  pub flag-clear : (k flag : ℕ) → flag ≢ 1 → w ≡ tabled w t (verticesAt w (t .vertices) nv) (flagged flag k (marksAt w (t .vertices) nv))
+  unfolding flagged
+  flag-clear k flag e = rw (ne-eqb flag 1 e) (s .is)
+
+-- ---- the number
+pub added-old : (height : ℕ) (w : List ℕ) (t : Tables) (nv : ℕ) (v : Vertex) (k : ℕ) → At k ≡ highestBelow height (verticesAt w (t .vertices) nv) v nv
+    → Added height w w t nv v k
+unfolding numberOf numberOr
+added-old height w t nv v k e =
+    let h : k < nv = found-below height (verticesAt w (t .vertices) nv) v nv k e in
+    record {
+      number = rw (length-vertices w (t .vertices) nv, ← e) refl;
+      is = rw (ne-eqb k nv (λ (q : k ≡ nv). omega arith)) refl;
+      within = omega arith;
+    }
+
+pub added-new : (height : ℕ) (w : List ℕ) {u : List ℕ} (t : Tables) (nv : ℕ) (v : Vertex) → Nothing ≡ highestBelow height (verticesAt w (t .vertices) nv) v nv
+    → u ≡ tabled w t (verticesAt w (t .vertices) nv ++ (v ∷ [])) (marksAt w (t .vertices) nv ++ (0 ∷ [])) → Added height w u t nv v nv
+unfolding numberOf numberOr
+added-new height w t nv v e p = record {
+  number = rw (length-vertices w (t .vertices) nv, ← e) refl;
+  is = rw (eq-eqb nv nv refl) p;
+  within = omega arith;
+}
+
+pub grown-new : (nv k : ℕ) → k ≡ nv → nv + 1 ≡ grown nv k
+unfolding grown
+grown-new nv k e = rw (eq-eqb k nv e) refl
+
+pub grown-old : (nv k : ℕ) → k ≢ nv → nv ≡ grown nv k
+unfolding grown
+grown-old nv k e = rw (ne-eqb k nv e) refl
+
+-- ---- v has its number k: what stands in the tables then, and what they are once they are written again
+pub record Numbered (height : ℕ) (w u : List ℕ) (t : Tables) (nv : ℕ) (v : Vertex) (flag k : ℕ) : Type 0 where
+  pub now : Tabled u t (grown nv k)
+  pub below : k < grown nv k
+  pub welded : {y : List ℕ} → y ≡ tabled u t (verticesAt u (t .vertices) (grown nv k)) (flagged flag k (marksAt u (t .vertices) (grown nv k)))
+      → WeldedOne height w y t nv v flag k
+
+module _ (height : ℕ) (w : List ℕ) (t : Tables) (nv : ℕ) (v : Vertex) (flag : ℕ) (s : Tabled w t nv) (r : Room w t (nv + 1)) where
+  old : (k : ℕ) → k ≡ numberOf height (verticesAt w (t .vertices) nv) v → k ≤ nv → k ≢ nv → Numbered height w w t nv v flag k
+  unfolding addVertex
+  old k e h d =
+      let q : eqb k nv ≡ false = ne-eqb k nv d in
+      let n = length-vertices w (t .vertices) nv in
+      let g : nv ≡ grown nv k = grown-old nv k d in
+      record {
+        now = rw (← g) s;
+        below = omega arith;
+        welded = λ p. record {
+          number = rw (← e) refl;
+          is = rw (← e, n, q) (rw (← g) at p);
+          count = rw (← e, n, q) (n ∙ g);
+          within = h;
+        };
+      }
+
+  new : (k : ℕ) {u : List ℕ} → k ≡ numberOf height (verticesAt w (t .vertices) nv) v → k ≡ nv
+      → u ≡ tabled w t (verticesAt w (t .vertices) nv ++ (v ∷ [])) (marksAt w (t .vertices) nv ++ (0 ∷ [])) → Numbered height w u t nv v flag k
+  unfolding addVertex
+  new k {u} e d p =
+      let q : eqb k nv ≡ true = eq-eqb k nv d in
+      let n = length-vertices w (t .vertices) nv in
+      let g : nv + 1 ≡ grown nv k = grown-new nv k d in
+      let us = verticesAt w (t .vertices) nv ++ (v ∷ []) in
+      let ns = marksAt w (t .vertices) nv ++ (0 ∷ []) in
+      let m : length us ≡ nv + 1 = length-append (verticesAt w (t .vertices) nv) (v ∷ []) ∙ ap (λ (j : ℕ). j + 1) n in
+      let l : length ns ≡ length us =
+      length-append (marksAt w (t .vertices) nv) (0 ∷ []) ∙ ap (λ (j : ℕ). j + 1) (length-marks w (t .vertices) nv) ∙ sym m in
+      let lu : length u ≡ length w = ap length p ∙ length-tabled w t us ns in
+      let h = holds-of t us ns w p (rw m r) in
+      let r′ : Room u t (nv + 1) = same-room lu r in
+      record {
+        now = rw (← g) (standing-now t us ns h (nv + 1) m l r′);
+        below = omega arith;
+        welded = λ {y} z.
+            let z′ : y ≡ tabled u t us (flagged flag k ns) = rw (← g, vertices-now t us ns h (nv + 1) m l r′, marks-now t us ns h (nv + 1) m l r′) at z in
+            record {
+              number = rw (← e) refl;
+              is = rw (← e, n, q) (z′ ∙ ap (λ (x : List ℕ). tabled x t us (flagged flag k ns)) p
+                  ∙ tabled-again w t us us ns (flagged flag k ns) (omega arith) (rw m r));
+              count = rw (← e, n, q) (m ∙ g);
+              within = omega arith;
+            };
+      }
+
+  pub numbered : {u : List ℕ} {k : ℕ} → Added height w u t nv v k → Numbered height w u t nv v flag k
+  numbered {u} {k} a = ⊎-elim
+      (λ (d : k ≡ nv). new k (a .number) d (rw (eq-eqb k nv d) at (a .is)))
+      (λ (d : k ≢ nv). let q : u ≡ w = rw (ne-eqb k nv d) at (a .is) in rw q (old k (a .number) (a .within) d))
+      (eq-or-ne k nv)
