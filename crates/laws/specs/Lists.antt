@@ -9,8 +9,8 @@ use lib.Seq.{take-suc, take-all, take-at, set-append-left, set-at, getD-at}
 use lib.IntN.{ℤ, _+ℤ_, +ℤ-idl, +ℤ-assoc}
 use Rattle.ints.specs.Ring.{at, _⊕_, is-eq}
 use Rattle.mem.specs.Cases.{lt-or-le}
-use Rattle.mem.specs.Packed.{Every}
-use Rattle.rules.specs.Lists.{swapRemove, without}
+use Rattle.mem.specs.Packed.{Every, every-at, every-set, every-take}
+use Rattle.rules.specs.Lists.{down, swapRemove, without}
 use Rattle.rules.specs.Areas.{sumOf}
 
 -- ---- what holds of all elements
@@ -81,6 +81,17 @@ unfolding Every
 every-of-all P d p none i = p
 every-of-all P d p (more h a) zero = h
 every-of-all P d p (more h a) (suc i) = every-of-all P d p a i
+
+-- of the list whose element at i goes, and whose last takes its place
+pub every-swap : {A : Type 0} (P : A → Type 0) (d : A) (l : List A) (i : ℕ) → Every P d l → Every P d (swapRemove d l i)
+unfolding swapRemove
+every-swap P d l i h = every-take P d _ (length l - 1) (every-set P d l i _ h (every-at P d l h (length l - 1)))
+
+-- ---- a turn of `down`
+pub down-turn : {A : Type 0} (z : A) (op : A → A → A) (f : ℕ → A) (n : ℕ) → 0 < n → down z op f n ≡ op (f (n - 1)) (down z op f (n - 1))
+unfolding down
+down-turn z op f zero h = absurd (omega arith)
+down-turn z op f (suc n) h = let e : suc n - 1 ≡ n = omega arith in rw e refl
 
 -- ---- maps
 module _ {A B : Type 0} where

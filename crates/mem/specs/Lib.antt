@@ -5,6 +5,7 @@ pub mod Slice
 -- loops: over the places of a range, again and again, and writing place after place
 pub mod Loops
 pub mod Tab
--- lists of records in memory, and numbers chained by their keys
+-- lists of records in memory, numbers chained by their keys, and tables one behind the other
 pub mod Packed
 pub mod Chain
+pub mod Shelves

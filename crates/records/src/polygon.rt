@@ -22,7 +22,7 @@ const CORNERS_AT: usize = 3;
 const SPARE_AT: usize = 15;
 
 // What a place without a corner holds.
-const NONE: u32 = 65535;
+pub const NONE: u32 = 65535;
 
 // A polygon by value: the first n of its corners count, the others are 65,535.
 pub struct Poly {

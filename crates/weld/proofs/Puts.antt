@@ -15,6 +15,7 @@ use Rattle.mem.specs.Slice.{view, splice, splice-one, splice-view, splice-insid
 use Rattle.mem.specs.Slice.{view-after, view-set-after, length-view}
 use Rattle.mem.specs.Loops.{block-fits}
 use Rattle.mem.specs.Cases.{eq-or-ne}
+use Rattle.mem.specs.Shelves.{shelved}
 use Rattle.mem.specs.Chain.{firsts, nexts, firsts-more, nexts-more}
 use Rattle.rules.specs.Weld.{noVertex, bucket, highestBelow, numberOr, numberOf, flagged, addVertex}
 use Rattle.rules.specs.declared.Vertex.{Vertex}
@@ -123,7 +124,7 @@ module _ (w : List ℕ) (t : Tables) (nv : ℕ) (s : Tabled w t nv) where
         → y ≡ splice (set w (t .buckets + h) n) (t .vertices + nv * vertexSize) (vertexWords v 0)
         → set y (t .nexts + nv) (getD w (t .buckets + h) 0)
         ≡ tabled w t (verticesAt w (t .vertices) nv ++ (v ∷ [])) (marksAt w (t .vertices) nv ++ (0 ∷ []))
-    unfolding tabled vs ms b
+    unfolding tabled shelved vs ms b
     put-steps {h} {n} {y} eh en ey =
         let x = set w (t .buckets + b) (nv + 1) in
         let e : y ≡ splice x (t .vertices + nv * vertexSize) (vertexWords v 0) =
@@ -154,7 +155,7 @@ module _ (w : List ℕ) (t : Tables) (nv : ℕ) (s : Tabled w t nv) where
         ∙ sym (set-part w a vertexSize markPlace 1 (omega arith) (omega (arith, room, fits)))
 
     pub mark-steps : set w (t .vertices + k * vertexSize + markPlace) 1 ≡ tabled w t (verticesAt w (t .vertices) nv) (set (marksAt w (t .vertices) nv) k 1)
-    unfolding tabled vs ms
+    unfolding tabled shelved vs ms
     mark-steps =
         let a = t .vertices + k * vertexSize + markPlace in
         let x = set w a 1 in

@@ -1,13 +1,14 @@
 -- What stands in the weld's tables: read back, written again, and next to other words; and that one exit alone fits the weld's promise. Assumes nothing.
 -- Key: `standing-now`: tables that hold vertices vs and marks ms give them back; `one-exit`: two exits that fit the promise are the same; `placed-after`:
 -- vertices on the grid stay there.
-use mathlib.Core.Path.{_≡_, refl, sym, ap, _∙_}
+use mathlib.Core.Path.{_≡_, refl, sym, _∙_}
 use mathlib.Core.List.{List, []}
 use Prim.Native.Nat.{ℕ, _+_, _*_, _%_, _≤_, _<_}
 use native.Mathlib.Omega.{arith}
 use native.Mathlib.Nat.{mod-lt}
 use lib.ListN.{length, replicate}
-use Rattle.mem.specs.Slice.{view, splice, splice-view, splice-over, splice-comm, length-splice, view-before, view-same}
+use Rattle.mem.specs.Shelves.{Shelves, length-shelved, shelf-first, shelf-second, shelf-third, shelved-same, shelved-past, shelved-again}
+use Rattle.mem.specs.Slice.{view, splice, view-before}
 use Rattle.mem.specs.Tab.{tab}
 use Rattle.mem.specs.Packed.{packed}
 use Rattle.mem.specs.Chain.{firsts, nexts, length-firsts, length-nexts, firsts-none, nexts-none}
@@ -28,7 +29,7 @@ bucket-below x z = mod-lt ((2376512323 * x % 4294967296 + 3407524639 * z % 42949
 
 pub length-tabled : (w : List ℕ) (t : Tables) (vs : List Vertex) (ms : List ℕ) → length (tabled w t vs ms) ≡ length w
 unfolding tabled
-length-tabled w t vs ms = simp length-splice
+length-tabled w t vs ms = length-shelved w (t .buckets) _ (t .vertices) _ (t .nexts) _
 
 -- ---- each table by itself
 pub record Holds (w : List ℕ) (t : Tables) (vs : List Vertex) (ms : List ℕ) : Type 0 where
@@ -48,36 +49,44 @@ pub same-room : {w u : List ℕ} {t : Tables} {n : ℕ} → length u ≡ length 
 same-room e r = record { buckets = r .buckets; vertices = r .vertices; nexts = omega (arith, r .nexts); few = r .few }
 
 module _ (t : Tables) (vs : List Vertex) (ms : List ℕ) where
+  F : List ℕ
+  F = firsts (keyOf vs) bucketCount (length vs)
+
+  R : List ℕ
+  R = vertexRecords vs ms
+
+  N : List ℕ
+  N = nexts (keyOf vs) (length vs)
+
+  long-F : length F ≡ bucketCount
+  unfolding F
+  long-F = length-firsts (keyOf vs) bucketCount (length vs)
+
+  long-R : length R ≡ length vs * vertexSize
+  unfolding R
+  long-R = length-vertex-records vs ms
+
+  long-N : length N ≡ length vs
+  unfolding N
+  long-N = length-nexts (keyOf vs) bucketCount (length vs)
+
+  shelves : (w : List ℕ) → Room w t (length vs) → Shelves w (t .buckets) bucketCount (t .vertices) (length vs * vertexSize) (t .nexts) (length vs)
+  shelves w r = record { second = r .buckets; third = r .vertices; end = r .nexts }
+
   pub holds-of : (w : List ℕ) {u : List ℕ} → u ≡ tabled w t vs ms → Room w t (length vs) → Holds u t vs ms
-  unfolding tabled
-  holds-of w {u} e r =
-      let F = firsts (keyOf vs) bucketCount (length vs) in
-      let R = vertexRecords vs ms in
-      let N = nexts (keyOf vs) (length vs) in
-      let lf = length-firsts (keyOf vs) bucketCount (length vs) in
-      let lr = length-vertex-records vs ms in
-      let ln = length-nexts (keyOf vs) bucketCount (length vs) in
-      let a = splice w (t .buckets) F in
-      let b = splice a (t .vertices) R in
-      let la : length a ≡ length w = length-splice w (t .buckets) F in
-      let lb : length b ≡ length w = length-splice a (t .vertices) R ∙ la in
+  unfolding tabled F R N
+  holds-of w e r =
       rw e (record {
-        buckets =
-            view-before b (t .nexts) (t .buckets) bucketCount N (omega (arith, r .buckets, r .vertices))
-            ∙ view-before a (t .vertices) (t .buckets) bucketCount R (omega (arith, r .buckets))
-            ∙ view-same w (t .buckets) bucketCount F lf (omega (arith, r .buckets, r .vertices, r .nexts));
-        vertices =
-            view-before b (t .nexts) (t .vertices) (length vs * vertexSize) N (omega (arith, r .vertices))
-            ∙ view-same a (t .vertices) (length vs * vertexSize) R lr (omega (arith, la, r .vertices, r .nexts));
-        nexts = view-same b (t .nexts) (length vs) N ln (omega (arith, lb, r .nexts));
+        buckets = shelf-first w (t .buckets) bucketCount F (t .vertices) (length vs * vertexSize) R (t .nexts) (length vs) N (shelves w r) long-F long-R long-N;
+        vertices = shelf-second w (t .buckets) bucketCount F (t .vertices) (length vs * vertexSize) R (t .nexts) (length vs) N (shelves w r) long-F long-R long-N;
+        nexts = shelf-third w (t .buckets) bucketCount F (t .vertices) (length vs * vertexSize) R (t .nexts) (length vs) N (shelves w r) long-F long-R long-N;
       })
 
   -- tables that hold them are written again
   pub tabled-of : {w : List ℕ} → Holds w t vs ms → w ≡ tabled w t vs ms
   unfolding tabled
   tabled-of {w} h =
-      sym (rw (← h .buckets, splice-view w (t .buckets) bucketCount, ← h .vertices, splice-view w (t .vertices) (length vs * vertexSize), ← h .nexts)
-      (splice-view w (t .nexts) (length vs)))
+      shelved-same w (t .buckets) bucketCount (t .vertices) (length vs * vertexSize) (t .nexts) (length vs) (h .buckets) (h .vertices) (h .nexts)
 
   -- what stands in the tables
   module _ {w : List ℕ} (h : Holds w t vs ms) (nv : ℕ) (size : length vs ≡ nv) (even : length ms ≡ length vs) (r : Room w t nv) where
@@ -106,48 +115,19 @@ even-now w t nv = length-marks w (t .vertices) nv ∙ sym (length-vertices w (t 
 -- ---- written again, with at least as many vertices
 pub tabled-again : (w : List ℕ) (t : Tables) (vs us : List Vertex) (ms ns : List ℕ) → length vs ≤ length us → Room w t (length us)
     → tabled (tabled w t vs ms) t us ns ≡ tabled w t us ns
-unfolding tabled
+unfolding tabled F R N
 tabled-again w t vs us ms ns h r =
-    let F = firsts (keyOf vs) bucketCount (length vs) in
-    let R = vertexRecords vs ms in
-    let N = nexts (keyOf vs) (length vs) in
-    let F′ = firsts (keyOf us) bucketCount (length us) in
-    let R′ = vertexRecords us ns in
-    let N′ = nexts (keyOf us) (length us) in
-    let lf = length-firsts (keyOf vs) bucketCount (length vs) in
-    let lr = length-vertex-records vs ms in
-    let ln = length-nexts (keyOf vs) bucketCount (length vs) in
-    let lf′ = length-firsts (keyOf us) bucketCount (length us) in
-    let lr′ = length-vertex-records us ns in
-    let ln′ = length-nexts (keyOf us) bucketCount (length us) in
-    let a = splice w (t .buckets) F in
-    let a′ = splice w (t .buckets) F′ in
-    ap (λ (x : List ℕ). splice (splice x (t .vertices) R′) (t .nexts) N′)
-    (sym (splice-comm (splice a (t .vertices) R) (t .buckets) (t .nexts) F′ N (omega (arith, r .buckets, r .vertices)))
-    ∙ ap (λ (x : List ℕ). splice x (t .nexts) N)
-    (sym (splice-comm a (t .buckets) (t .vertices) F′ R (omega (arith, r .buckets)))
-    ∙ ap (λ (x : List ℕ). splice x (t .vertices) R) (splice-over w (t .buckets) F F′ (omega arith))))
-    ∙ ap (λ (x : List ℕ). splice x (t .nexts) N′)
-    (sym (splice-comm (splice a′ (t .vertices) R) (t .vertices) (t .nexts) R′ N (omega (arith, r .vertices)))
-    ∙ ap (λ (x : List ℕ). splice x (t .nexts) N) (splice-over a′ (t .vertices) R R′ (omega arith)))
-    ∙ splice-over (splice a′ (t .vertices) R′) (t .nexts) N N′ (omega arith)
+    shelved-again w (t .buckets) bucketCount (F t us ns) (t .vertices) (length us * vertexSize) (R t us ns) (t .nexts) (length us) (N t us ns)
+    (shelves t us ns w r) (long-F t us ns) (long-R t us ns) (long-N t us ns) (F t vs ms) (R t vs ms) (N t vs ms)
+    (omega (arith, long-F t vs ms)) (omega (arith, long-R t vs ms)) (omega (arith, long-N t vs ms))
 
 -- words behind the tables are no part of them
 module _ (w : List ℕ) (t : Tables) (vs : List Vertex) (ms : List ℕ) (ko : ℕ) (ks : List ℕ) (r : Room w t (length vs)) (b : t .nexts + length vs ≤ ko) where
   pub tabled-past : tabled (splice w ko ks) t vs ms ≡ splice (tabled w t vs ms) ko ks
-  unfolding tabled
+  unfolding tabled F R N
   tabled-past =
-      let F = firsts (keyOf vs) bucketCount (length vs) in
-      let R = vertexRecords vs ms in
-      let N = nexts (keyOf vs) (length vs) in
-      let lf = length-firsts (keyOf vs) bucketCount (length vs) in
-      let lr = length-vertex-records vs ms in
-      let ln = length-nexts (keyOf vs) bucketCount (length vs) in
-      ap (λ (x : List ℕ). splice (splice x (t .vertices) R) (t .nexts) N)
-      (sym (splice-comm w (t .buckets) ko F ks (omega (arith, r .buckets, r .vertices))))
-      ∙ ap (λ (x : List ℕ). splice x (t .nexts) N)
-      (sym (splice-comm (splice w (t .buckets) F) (t .vertices) ko R ks (omega (arith, r .vertices))))
-      ∙ sym (splice-comm (splice (splice w (t .buckets) F) (t .vertices) R) (t .nexts) ko N ks (omega arith))
+      shelved-past w (t .buckets) bucketCount (F t vs ms) (t .vertices) (length vs * vertexSize) (R t vs ms) (t .nexts) (length vs) (N t vs ms)
+      (shelves t vs ms w r) (long-F t vs ms) (long-R t vs ms) (long-N t vs ms) ko ks b
 
   pub holds-past : Holds w t vs ms → Holds (splice w ko ks) t vs ms
   holds-past h = record {

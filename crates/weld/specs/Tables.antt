@@ -8,6 +8,7 @@ use lib.Dec.{eqb, leb}
 use lib.ListN.{length, getD}
 use Rattle.mem.specs.Slice.{view, splice}
 use Rattle.mem.specs.Chain.{firsts, nexts}
+use Rattle.mem.specs.Shelves.{shelved}
 use Rattle.rules.specs.Lists.{apart}
 use Rattle.rules.specs.Weld.{noVertex, bucket, numberOf, Welded, addVertex, weldAll}
 use Rattle.rules.specs.Job.{jobStride, contourVertices, contourFlags}
@@ -29,9 +30,7 @@ agree height v u c = cond (eqb c 0) (eqb (v .x) (u .x)) (cond (eqb c 1) (leb (ap
 -- the vertices vs with the marks ms in the tables at t: each bucket's first vertex, the records, each vertex's next; every other word is w's
 unfoldable pub tabled : List ℕ → Tables → List Vertex → List ℕ → List ℕ
 tabled w t vs ms =
-    splice (splice (splice w (t .buckets) (firsts (keyOf vs) bucketCount (length vs)))
-    (t .vertices) (vertexRecords vs ms))
-    (t .nexts) (nexts (keyOf vs) (length vs))
+    shelved w (t .buckets) (firsts (keyOf vs) bucketCount (length vs)) (t .vertices) (vertexRecords vs ms) (t .nexts) (nexts (keyOf vs) (length vs))
 
 -- and the numbers that a contour's vertices took, at ko
 unfoldable pub weldedWords : List ℕ → Tables → ℕ → Welded → List ℕ

@@ -1,0 +1,84 @@
+-- Three lists written into a slice, each behind the one before: what stands in each place, and what becomes of it when they are written again or when
+-- other words are written behind them. Tables of numbers chained by their keys lie so: the first of each key, the numbers' records, the next of each number.
+-- Assumes nothing.
+-- Key: `shelf-first`, `shelf-second`, `shelf-third`: each list stands in its place; `shelved-again`: written again, only the last writing shows.
+use mathlib.Core.Path.{_≡_, sym, ap, _∙_}
+use mathlib.Core.List.{List}
+use Prim.Native.Nat.{ℕ, _+_, _≤_}
+use native.Mathlib.Omega.{arith}
+use lib.ListN.{length}
+use Rattle.mem.specs.Slice.{view, splice, splice-view, splice-over, splice-comm, length-splice, view-before, view-same}
+
+module _ {A : Type 0} where
+  unfoldable pub shelved : List A → ℕ → List A → ℕ → List A → ℕ → List A → List A
+  shelved w a xs b ys c zs = splice (splice (splice w a xs) b ys) c zs
+
+  -- m, n and k words have room at a, b and c
+  pub record Shelves (w : List A) (a m b n c k : ℕ) : Type 0 where
+    pub second : a + m ≤ b
+    pub third : b + n ≤ c
+    pub end : c + k ≤ length w
+
+  pub length-shelved : (w : List A) (a : ℕ) (xs : List A) (b : ℕ) (ys : List A) (c : ℕ) (zs : List A) → length (shelved w a xs b ys c zs) ≡ length w
+  unfolding shelved
+  length-shelved w a xs b ys c zs = simp length-splice
+
+  module _ (w : List A) (a m : ℕ) (xs : List A) (b n : ℕ) (ys : List A) (c k : ℕ) (zs : List A) (r : Shelves w a m b n c k)
+      (lx : length xs ≡ m) (ly : length ys ≡ n) (lz : length zs ≡ k) where
+    x : List A
+    x = splice w a xs
+
+    y : List A
+    y = splice x b ys
+
+    long-x : length x ≡ length w
+    unfolding x
+    long-x = length-splice w a xs
+
+    long-y : length y ≡ length w
+    unfolding x y
+    long-y = length-splice x b ys ∙ long-x
+
+    pub shelf-first : view (shelved w a xs b ys c zs) a m ≡ xs
+    unfolding shelved x y
+    shelf-first =
+        view-before y c a m zs (omega (arith, r .second, r .third)) ∙ view-before x b a m ys (r .second)
+        ∙ view-same w a m xs lx (omega (arith, r .second, r .third, r .end))
+
+    pub shelf-second : view (shelved w a xs b ys c zs) b n ≡ ys
+    unfolding shelved x y
+    shelf-second = view-before y c b n zs (r .third) ∙ view-same x b n ys ly (omega (arith, long-x, r .third, r .end))
+
+    pub shelf-third : view (shelved w a xs b ys c zs) c k ≡ zs
+    unfolding shelved x y
+    shelf-third = view-same y c k zs lz (omega (arith, long-y, r .end))
+
+    -- words behind them are no part of them
+    pub shelved-past : (p : ℕ) (us : List A) → c + k ≤ p → shelved (splice w p us) a xs b ys c zs ≡ splice (shelved w a xs b ys c zs) p us
+    unfolding shelved x y
+    shelved-past p us h =
+        ap (λ (l : List A). splice (splice l b ys) c zs) (sym (splice-comm w a p xs us (omega (arith, r .second, r .third))))
+        ∙ ap (λ (l : List A). splice l c zs) (sym (splice-comm x b p ys us (omega (arith, r .third))))
+        ∙ sym (splice-comm y c p zs us (omega arith))
+
+    -- written over lists that were no longer
+    pub shelved-again : (us vs ws : List A) → length us ≤ m → length vs ≤ n → length ws ≤ k
+        → shelved (shelved w a us b vs c ws) a xs b ys c zs ≡ shelved w a xs b ys c zs
+    unfolding shelved x y
+    shelved-again us vs ws hu hv hw =
+        let s = splice w a us in
+        ap (λ (l : List A). splice (splice l b ys) c zs)
+        (sym (splice-comm (splice s b vs) a c xs ws (omega (arith, r .second, r .third)))
+        ∙ ap (λ (l : List A). splice l c ws)
+        (sym (splice-comm s a b xs vs (omega (arith, r .second)))
+        ∙ ap (λ (l : List A). splice l b vs) (splice-over w a us xs (omega arith))))
+        ∙ ap (λ (l : List A). splice l c zs)
+        (sym (splice-comm (splice x b vs) b c ys ws (omega (arith, r .third)))
+        ∙ ap (λ (l : List A). splice l c ws) (splice-over x b vs ys (omega arith)))
+        ∙ splice-over y c ws zs (omega arith)
+
+  -- what stands there is written again
+  pub shelved-same : (w : List A) (a m b n c k : ℕ) {xs ys zs : List A} → view w a m ≡ xs → view w b n ≡ ys → view w c k ≡ zs → w ≡ shelved w a xs b ys c zs
+  unfolding shelved
+  shelved-same w a m b n c k p q r =
+      sym (rw (← p, splice-view w a m, ← q, splice-view w b n, ← r) (splice-view w c k))

@@ -1,0 +1,59 @@
+-- `polys::best::best_of_row` meets its contract: the polygons that are left of the row, from the best so far, give the best of the row. Assumes nothing.
+use Prim.Native.Nat.{_-_}
+use borrow.Author.Needs.{needs}
+use Rattle.mem.specs.Loops.{Doing, doing-more, doing-end}
+use Rattle.rules.specs.Merge.{bestOfRow}
+use Rattle.records.specs.Layout.{verticesAt, polygonsAt}
+use Rattle.records.specs.Polygons.{length-polygons}
+use Rattle.polys.proofs.Greatest.{rowStep, row-begin, row-step}
+use Rattle.polys.proofs.best.best_of_row.Statement.{statement}
+use Rattle.polys.proofs.best.best_of_row.Tie as tie
+
+abbrev Inv-loop : tie.InvT-loop
+Inv-loop work vo nv o np nvp a m₀ b₀ m b =
+    Doing (rowStep (verticesAt work vo nv) nvp (polygonsAt work o np) a) (bestOfRow (verticesAt work vo nv) nvp (polygonsAt work o np) a m₀) np m b
+
+abbrev μ-loop : tie.MeasureT-loop
+μ-loop work vo nv o np nvp a m₀ b₀ m b = np - b
+
+add-b : tie.Need-add-b Inv-loop μ-loop
+add-b c = search needs
+
+loop-holds : tie.Need-loop-holds Inv-loop μ-loop
+loop-holds c = let s = c .before in row-begin _ (s .args .nvp) _ (s .args .a) _ _ (length-polygons _ _ _)
+
+get-poly-merge-value-requires : tie.Need-get-poly-merge-value-requires Inv-loop μ-loop
+get-poly-merge-value-requires c κs = search needs
+
+greater-requires : tie.Need-greater-requires Inv-loop μ-loop
+greater-requires c κs = search needs
+
+add-b-2 : tie.Need-add-b-2 Inv-loop μ-loop
+add-b-2 c = search needs
+
+loop-less : tie.Need-loop-less Inv-loop μ-loop
+loop-less c = search needs
+
+loop-again : tie.Need-loop-again Inv-loop μ-loop
+loop-again c =
+    let s = c .before .before .before .before .before in
+    doing-more (c .before .before .before .loop .inv) (search needs)
+    (row-step _ (s .args .nvp) _ (s .args .a) _ _ (c .before .get-poly-merge-value .ensures) (c .greater .ensures))
+
+returns : tie.Need-returns Inv-loop μ-loop
+returns c = doing-end (c .before .loop .inv) (search needs)
+
+pub best-of-row-spec : {M : Type 1} → statement M
+best-of-row-spec =
+    tie.close
+    (tie.spec
+    Inv-loop
+    μ-loop
+    add-b
+    loop-holds
+    get-poly-merge-value-requires
+    greater-requires
+    add-b-2
+    loop-less
+    loop-again
+    returns)

@@ -1,0 +1,2 @@
+-- what the functions of the merge ask for, and what the merge leaves: definitions that contracts cite
+pub mod Ready

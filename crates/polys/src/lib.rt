@@ -1,0 +1,5 @@
+// R4: the polygons of one contour, or of one hole, are merged.
+pub mod side; // the side that two polygons share
+pub mod value; // whether two polygons can be joined, and how good it would be
+pub mod best; // the best pair
+pub mod merge; // the join of a pair, and the merge of all
