@@ -1,7 +1,7 @@
 -- R5, the polygons around a vertex: their untouched sides have their area as seen from the vertex, and are two fewer than their corners; those that go and
 -- those that stay are all of them. Assumes nothing.
--- Key: `took-out`: those that go and those that stay are all polygons; `area-untouched`, `length-untouched`: what their sides have.
-use Prim.Native.Nat.{ℕ, zero, suc, _+_, _-_, _≤_, _<_}
+-- Key: `took-out`: those that go and those that stay are all polygons; `area-untouched`, `length-untouched`: what their sides have; `neighbours-few`.
+use Prim.Native.Nat.{ℕ, zero, suc, _+_, _-_, _*_, _≤_, _<_}
 use native.Mathlib.Omega.{arith}
 use native.Mathlib.Numerals.{add-one}
 use mathlib.Core.Path.{_≡_, refl, sym, _∙_, ap, ap₂}
@@ -20,10 +20,11 @@ use Rattle.rules.specs.declared.Point.{Point}
 use Rattle.rules.specs.declared.Side.{Side}
 use Rattle.rules.specs.Plane.{D, area}
 use Rattle.rules.specs.Lists.{prev, swapRemove, count}
-use Rattle.rules.specs.Mesh.{Polygon, noPolygon, polygonAt}
-use Rattle.rules.specs.Removal.{holds, untouchedSide, sideInto, untouched, TakingOut, takeOne, takenOut, heldOnce}
+use Rattle.rules.specs.Mesh.{Polygon, noPolygon, polygonAt, sideStart, sideEnd}
+use Rattle.rules.specs.Removal.{holds, untouchedSide, sideInto, untouched, TakingOut, takeOne, takenOut, heldOnce, otherEnd, neighboursIn, neighbours}
 use Rattle.rules.specs.Areas.{sumOf}
 use Rattle.laws.specs.Lists.{All, none, more, all-append, all-at, all-of, sum-append, gather, map-append, swap-perm, swap-length}
+use Rattle.laws.specs.Ring.{next-in, next-out}
 use Rattle.laws.specs.Sides.{path, path-map, area-round, D-start, D-end}
 
 -- ---- the untouched sides, from one corner to the next
@@ -247,6 +248,61 @@ run-all f (suc m) i e j h k = ⊎-elim
 pub held-once : (rem : ℕ) (ps : List Polygon) → heldOnce rem ps ≡ true → All (λ p. holds rem p ≤ 1) ps
 unfolding heldOnce over
 held-once rem ps e = all-of ps noPolygon (λ i h. leb-true (holds rem (polygonAt ps i)) 1 (run-all (λ i. leb (holds rem (polygonAt ps i)) 1) (length ps - 0) 0 e i (omega arith) (omega arith)))
+
+-- ---- its neighbours: two in a polygon that holds it once, and none in the others
+
+end-few : (rem a b : ℕ) → length (otherEnd rem a b) ≤ one (eqb a rem) + one (eqb b rem)
+unfolding otherEnd
+end-few rem a b = go (eqb a rem) (eqb b rem)
+  where
+    go : (x y : Bool) → length {A = ℕ} (cond x (b ∷ []) (cond y (a ∷ []) [])) ≤ one x + one y
+    go true y = omega arith
+    go false true = omega arith
+    go false false = omega arith
+
+count-on : (rem : ℕ) (cs : List ℕ) (i : ℕ) → i < length cs → count rem (drop i cs) ≡ one (eqb (getD cs i 0) rem) + count rem (drop (i + 1) cs)
+unfolding count
+count-on rem cs i h = rw (drop-cons cs i 0 h, add-one i) refl
+
+-- on the m sides from corner i on: each corner that is the vertex has two of them, but for the first and the last end
+ends-few : (rem : ℕ) (cs : List ℕ) (m i : ℕ) → i + m ≡ length cs
+    → length (run [] _++_ (λ j. otherEnd rem (sideStart cs j) (sideEnd cs j)) i m)
+    ≤ one (eqb (getD cs i 0) rem) + 2 * count rem (drop (i + 1) cs) + one (eqb (getD cs 0 0) rem)
+unfolding run
+ends-few rem cs zero i e = omega arith
+ends-few rem cs (suc m) i e = ⊎-elim
+    (λ (h : i + 1 < length cs).
+    let s : suc i ≡ i + 1 = omega arith in
+    let c : count rem (drop (i + 1) cs) ≡ one (eqb (getD cs (i + 1) 0) rem) + count rem (drop (i + 1 + 1) cs) = count-on rem cs (i + 1) h in
+    rw (next-in i (length cs) h, s)
+    (omega (
+      arith,
+      length-append (otherEnd rem (getD cs i 0) (getD cs (i + 1) 0)) (run [] _++_ (λ j. otherEnd rem (sideStart cs j) (sideEnd cs j)) (i + 1) m),
+      end-few rem (getD cs i 0) (getD cs (i + 1) 0),
+      ends-few rem cs m (i + 1) (omega arith),
+    )))
+    (λ (h : length cs ≤ i + 1).
+    let z : m ≡ 0 = omega arith in
+    rw (next-out i (length cs) h, z, append-nil (otherEnd rem (getD cs i 0) (getD cs 0 0))) (omega (arith, end-few rem (getD cs i 0) (getD cs 0 0))))
+    (lt-or-le (i + 1) (length cs))
+
+polygon-few : (rem : ℕ) (cs : List ℕ) → length (neighboursIn rem cs) ≤ 2 * count rem cs
+unfolding neighboursIn over run count
+polygon-few rem [] = omega arith
+polygon-few rem (c ∷ cs) = omega (arith, ends-few rem (c ∷ cs) (length (c ∷ cs) - 0) 0 (omega arith))
+
+run-few : (f : ℕ → List ℕ) (m i : ℕ) → ((j : ℕ) → j < i + m → length (f j) ≤ 2) → length (run [] _++_ f i m) ≤ 2 * m
+unfolding run
+run-few f zero i h = omega arith
+run-few f (suc m) i h = omega (arith, length-append (f i) (run [] _++_ f (suc i) m), h i (omega arith), run-few f m (suc i) (λ j k. h j (omega arith)))
+
+pub neighbours-few : (rem : ℕ) (ps : List Polygon) → heldOnce rem ps ≡ true → length (neighbours rem ps) ≤ 2 * length ps
+unfolding neighbours over holds
+neighbours-few rem ps e = omega (
+  arith,
+  run-few (λ i. neighboursIn rem (polygonAt ps i .corners)) (length ps - 0) 0
+      (λ j k. omega (arith, polygon-few rem (polygonAt ps j .corners), all-at (held-once rem ps e) j noPolygon (omega arith))),
+)
 
 -- a polygon that does not hold the vertex
 pub not-held : (rem n : ℕ) {l : List ℕ} → count rem l ≡ 0 → All (λ c. c < n) l → All (Clear rem n) l

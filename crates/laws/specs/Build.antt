@@ -142,7 +142,7 @@ pub record Bounded (j : Job) (m : Mesh) : Type 0 where
   pub sound : Sound (j .nvp) m
 
 pub balanced-bounds : (j : Job) (m : Mesh) (log : List Removal) → Balanced (j .nvp) (jobArea j) (countT j) (countV j) m log → Bounded j m
-balanced-bounds j m log b = record { polygons = omega (arith, polygons-few (b .sound .good), b .spares); vertices = b .vertices; sound = b .sound }
+balanced-bounds j m log b = record { polygons = omega (arith, polygons-few (all-imp (λ p k. k .long) (b .sound .good)), b .spares); vertices = b .vertices; sound = b .sound }
 
 pub bounded : (j : Job) (b : Lent) (m : Mesh) (ls : List (List ℕ)) (log : List Removal) → outcome j b ≡ built m ls log → Bounded j m
 bounded j b m ls log e = balanced-bounds j m log (balanced j b m ls log e)

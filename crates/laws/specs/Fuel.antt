@@ -191,12 +191,19 @@ once-cases w = ⊎-elim
     (λ (h : length (walkOnce w .rest) < length (w .rest)). inr h)
     (pass-cases (length (w .rest)) (record { chain = w .chain; rest = w .rest; at = 0 }) (omega arith))
 
+-- and leaves no more sides than there were
+pub once-fewer : (w : Walk) → length (walkOnce w .rest) ≤ length (w .rest)
+unfolding walkOnce
+once-fewer w =
+    let start : Walk = record { chain = w .chain; rest = w .rest; at = 0 } in
+    less-or-same (length (w .rest)) start (walkOnce w) (pass-cases (length (w .rest)) start (omega arith))
+
 once-ends : (w : Walk) → walkOnce w .at ≡ length (walkOnce w .rest)
 unfolding walkOnce
 once-ends w = pass-ends (length (w .rest)) (record { chain = w .chain; rest = w .rest; at = 0 }) (omega arith)
 
 -- a walk at its place 0 with no side left
-empty-still : (w : Walk) → length (w .rest) ≡ 0 → w .at ≡ 0 → walkOnce w ≡ w
+pub empty-still : (w : Walk) → length (w .rest) ≡ 0 → w .at ≡ 0 → walkOnce w ≡ w
 unfolding walkOnce times
 empty-still w e z = rw e (go (w .at) z)
   where

@@ -134,14 +134,14 @@ get-set ls i k l e = ⊎-elim
     (λ (h : length ls ≤ i). ap (λ (m : List (List ℕ)). length (getD m k [])) (set-out ls i l h))
     (lt-or-le i (length ls))
 
-set-shaped : (ps : List Polygon) (i j n : ℕ) (ls : List (List ℕ)) → Shaped ps ls → Shaped ps (setLink i j n ls)
+pub set-shaped : (ps : List Polygon) (i j n : ℕ) (ls : List (List ℕ)) → Shaped ps ls → Shaped ps (setLink i j n ls)
 unfolding setLink
 set-shaped ps i j n ls s = record {
   polygons = length-set ls i (set (getD ls i []) j n) ∙ s .polygons;
   sides = λ k. get-set ls i k (set (getD ls i []) j n) (length-set (getD ls i []) j n) ∙ s .sides k;
 }
 
-store-shaped : (ps : List Polygon) (es : List Edge) (k : ℕ) (ls : List (List ℕ)) → Shaped ps ls → Shaped ps (storeEdge es k ls)
+pub store-shaped : (ps : List Polygon) (es : List Edge) (k : ℕ) (ls : List (List ℕ)) → Shaped ps ls → Shaped ps (storeEdge es k ls)
 unfolding storeEdge
 store-shaped ps es k ls s =
     let e = getD es k noEdge in
@@ -154,7 +154,7 @@ none-sides [] i = refl
 none-sides (p ∷ ps) zero = length-replicate (length (p .corners)) none
 none-sides (p ∷ ps) (suc i) = none-sides ps i
 
-none-shaped : (ps : List Polygon) → Shaped ps (noLinks ps)
+pub none-shaped : (ps : List Polygon) → Shaped ps (noLinks ps)
 unfolding noLinks
 none-shaped ps = record { polygons = length-map ps _; sides = none-sides ps }
 

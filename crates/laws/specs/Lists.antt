@@ -5,7 +5,7 @@ use mathlib.Core.Logic.{⊎-elim}
 use Prim.Native.Nat.{ℕ, zero, suc, _+_, _-_, _≤_, _<_}
 use native.Mathlib.Omega.{arith}
 use lib.ListN.{length, take, drop, getD, set, length-append, length-take, length-drop, length-set, List·getD-append}
-use lib.Seq.{take-suc, take-all, take-at, set-append-left, set-at, getD-at}
+use lib.Seq.{take-suc, take-all, take-at, set-append-left, set-at, getD-at, getD-take, getD-drop, getD-append-add, length-take-le}
 use lib.IntN.{ℤ, _+ℤ_, +ℤ-idl, +ℤ-assoc}
 use Rattle.ints.specs.Ring.{at, _⊕_, is-eq}
 use Rattle.mem.specs.Cases.{lt-or-le}
@@ -232,6 +232,21 @@ module _ {A : Type 0} where
   pub swap-length : (d : A) (l : List A) (i : ℕ) → length (swapRemove d l i) ≡ length l - 1
   unfolding swapRemove
   swap-length d l i = simp (length-take, length-set) (omega arith)
+
+  -- the elements before i stay, and what follows it moves down
+  pub without-below : (l : List A) (i j : ℕ) (d : A) → i < length l → j < i → getD (without l i) j d ≡ getD l j d
+  unfolding without
+  without-below l i j d h a =
+      List·getD-append (take i l) (drop (i + 1) l) d j (omega (arith, length-take-le i l (omega arith))) ∙ getD-take i l j d a
+
+  pub without-above : (l : List A) (i j : ℕ) (d : A) → i < length l → i ≤ j → getD (without l i) j d ≡ getD l (j + 1) d
+  unfolding without
+  without-above l i j d h a =
+      let n : length (take i l) ≡ i = length-take-le i l (omega arith) in
+      let e : j ≡ length (take i l) + (j - i) = omega arith in
+      ap (λ (k : ℕ). getD (take i l ++ drop (i + 1) l) k d) e
+      ∙ getD-append-add (take i l) (drop (i + 1) l) (j - i) d ∙ getD-drop (i + 1) l (j - i) d
+      ∙ ap (λ (k : ℕ). getD l k d) (omega arith)
 
   pub length-without : (l : List A) (i : ℕ) → i < length l → length (without l i) ≡ length l - 1
   unfolding without

@@ -290,10 +290,10 @@ merged vs P nvp ps g = go (ltb 3 nvp)
     go false = merged-none vs P nvp ps g
 
 -- as many spare corners as polygons, at least: so there are at most T polygons
-pub polygons-few : {P : ℕ → Type 0} {nvp : ℕ} {ps : List Polygon} → All (Good P nvp) ps → length ps ≤ sparesIn ps
+pub polygons-few : {ps : List Polygon} → All Long ps → length ps ≤ sparesIn ps
 unfolding total
 polygons-few none = omega arith
-polygons-few (more g a) = omega (arith, g .long, polygons-few a)
+polygons-few (more h a) = omega (arith, h, polygons-few a)
 
 -- whatever the corners' numbers are: triangles ps, merged, have as many corners beyond two as there are triangles
 pub record Corners (n : ℕ) (ps : List Polygon) : Type 0 where

@@ -303,7 +303,7 @@ points-triangle vs hole (triangle {a} {b} {c} h k l) =
     let n = length-places vs hole in
     rw (place-at vs hole a (omega arith), place-at vs hole b (omega arith), place-at vs hole c (omega arith)) refl
 
-good-triangle : (vs : List Vertex) (P : ℕ → Type 0) (nvp : ℕ) (hole : List ChainPoint) {t : List ℕ} → 3 ≤ nvp → All (λ (c : ChainPoint). P (c .vertex)) hole
+pub good-triangle : (vs : List Vertex) (P : ℕ → Type 0) (nvp : ℕ) (hole : List ChainPoint) {t : List ℕ} → 3 ≤ nvp → All (λ (c : ChainPoint). P (c .vertex)) hole
     → Triangle (length (placesOf vs hole)) t → Good P nvp (holeTriangle hole t)
 unfolding holeTriangle
 good-triangle vs P nvp hole z a (triangle {a = x} {b = y} {c = w} h k l) =
@@ -366,13 +366,16 @@ pub record Chained (vs : List Vertex) (rem : ℕ) (sides : List Side) (chain : L
   pub areas : pathOf (placeOf vs rem) (placesOf (without vs rem) chain) ≡ sumOf (onSide (seen (placeOf vs rem) (placeOf vs))) sides
   pub inside : All (λ (c : ChainPoint). c .vertex < length (without vs rem)) chain
 
--- one point more than sides
-pub chain-length : (sides : List Side) → 0 < length sides → length (walk sides .rest) ≡ 0 → length (walk sides .chain) ≡ suc (length sides)
-chain-length sides z e = omega (arith, walked {P = λ c. Unit} (λ a b. pos 0) sides z (anything sides) (anything sides) .counts)
+-- one point more than sides that are used
+pub walk-counts : (sides : List Side) → 0 < length sides → length (walk sides .chain) + length (walk sides .rest) ≡ suc (length sides)
+walk-counts sides z = walked {P = λ c. Unit} (λ a b. pos 0) sides z (anything sides) (anything sides) .counts
   where
     anything : (l : List Side) → All (λ (s : Side). Unit) l
     anything [] = none
     anything (s ∷ l) = more tt (anything l)
+
+pub chain-length : (sides : List Side) → 0 < length sides → length (walk sides .rest) ≡ 0 → length (walk sides .chain) ≡ suc (length sides)
+chain-length sides z e = omega (arith, walk-counts sides z)
 
 module _ (vs : List Vertex) (rem : ℕ) (sides : List Side) (h : rem < length vs) (clear : All (ClearSide rem (length vs)) sides) where
   -- a side in new numbers is the same side
@@ -436,6 +439,10 @@ removable rem ps e =
 pub length-sides : (rem : ℕ) (ps : List Polygon) → length (sidesLeft rem ps) ≡ length (takenOut rem ps .sides)
 unfolding sidesLeft
 length-sides rem ps = length-map (takenOut rem ps .sides) (droppedSide rem)
+
+-- no more sides than corners beyond two
+pub sides-few : (rem : ℕ) (ps : List Polygon) → All Long ps → heldOnce rem ps ≡ true → length (sidesLeft rem ps) ≤ sparesIn ps
+sides-few rem ps long h = omega (arith, length-sides rem ps, spares-opened rem ps long h)
 
 pub chain-counts : (rem : ℕ) (ps : List Polygon) → Removable rem ps → length (walk (sidesLeft rem ps) .chain) ≡ suc (length (takenOut rem ps .sides))
 chain-counts rem ps may = chain-length (sidesLeft rem ps) (omega (arith, may .many)) (may .used) ∙ ap suc (length-sides rem ps)

@@ -46,6 +46,12 @@ prev-out : (i n : ℕ) → i < 1 → prev i n ≡ n - 1
 unfolding prev
 prev-out i n h = rw (lt-leb 1 i h)
 
+pub prev-below : (i n : ℕ) → i < n → prev i n < n
+prev-below i n h = ⊎-elim
+    (λ (k : i < 1). rw (prev-out i n k) (omega arith))
+    (λ (k : 1 ≤ i). rw (prev-in i n k) (omega arith))
+    (lt-or-le i 1)
+
 pub prev-remainder : PrevIsRemainder
 prev-remainder i n h = ⊎-elim
     (λ (k : i < 1). let e : i + n - 1 ≡ n - 1 = omega arith in rw (prev-out i n k, e) (sym (mod-eq-of-lt (omega arith))))

@@ -2,14 +2,14 @@
 -- `exit ≡ splice entry o (packed enc (f (blocks dec entry o k n)))`: f is of lists alone, and every word is fixed.
 -- Assumes nothing.
 use mathlib.Core.Path.{_≡_, refl, sym, ap, _∙_}
-use mathlib.Core.List.{List, [], _∷_, _++_, map, append-assoc}
+use mathlib.Core.List.{List, [], _∷_, _++_, map, append-assoc, append-nil}
 use mathlib.Core.Logic.{⊎-elim, _≢_}
 use Prim.Native.Nat.{ℕ, zero, suc, _+_, _*_, _≤_, _<_}
 use native.Mathlib.Nat.{le-refl, zero-add, suc-mul, zero-mul}
 use native.Mathlib.Omega.{arith}
 use lib.ListN.{length, take, drop, getD, set, length-append, List·getD-eq-default, replicate}
-use lib.Seq.{ext-getD, getD-set-same, getD-set-other, set-out, getD-drop, drop-drop, take-at, drop-at}
-use Rattle.mem.specs.Slice.{view, splice, splice-nil, splice-inside, view-same, view-view}
+use lib.Seq.{ext-getD, getD-set-same, getD-set-other, set-out, getD-drop, drop-drop, take-at, drop-at, take-all, take-nil, drop-nil, take-append-add, length-take-le}
+use Rattle.mem.specs.Slice.{view, splice, splice-nil, splice-append, splice-inside, length-splice, view-same, view-view, take-snoc}
 use Rattle.mem.specs.Cases.{lt-or-le, eq-or-ne}
 use Rattle.mem.specs.Tab.{tab, length-tab, getD-tab, blocks, length-blocks, getD-blocks}
 use Rattle.mem.specs.Loops.{block-fits}
@@ -157,6 +157,23 @@ module _ {B : Type 0} (enc : B → List ℕ) where
         rw (e, ← drop-drop (i * k) k (enc a ++ packed bs), drop-at (enc a) (packed bs) k (sized a (head a bs h)))
         (packed-view bs i (tail a bs h) (omega arith))
 
+    -- the words of the first i, and of the others
+    pub packed-take : (bs : List B) (i : ℕ) → Every Fit d bs → take (i * k) (packed bs) ≡ packed (take i bs)
+    unfolding packed
+    packed-take bs zero h = rw (zero-mul k) refl
+    packed-take [] (suc i) h = take-nil (suc i * k)
+    packed-take (b ∷ bs) (suc i) h =
+        let e : suc i * k ≡ length (enc b) + i * k = rw (suc-mul i k, sized b (head b bs h)) (omega arith) in
+        rw e (take-append-add (enc b) (packed bs) (i * k) ∙ ap (λ (r : List ℕ). enc b ++ r) (packed-take bs i (tail b bs h)))
+
+    pub packed-drop : (bs : List B) (i : ℕ) → Every Fit d bs → drop (i * k) (packed bs) ≡ packed (drop i bs)
+    unfolding packed
+    packed-drop bs zero h = rw (zero-mul k) refl
+    packed-drop [] (suc i) h = drop-nil (suc i * k)
+    packed-drop (b ∷ bs) (suc i) h =
+        let e : suc i * k ≡ k + i * k = rw (suc-mul i k) (omega arith) in
+        rw (e, ← drop-drop (i * k) k (enc b ++ packed bs), drop-at (enc b) (packed bs) k (sized b (head b bs h))) (packed-drop bs i (tail b bs h))
+
     module _ (w : List ℕ) (o : ℕ) (bs : List B) (all : Every Fit d bs) (fits : o + length bs * k ≤ length w) where
       -- the words of thing i
       pub packed-at : (i : ℕ) → i < length bs → view (splice w o (packed bs)) (o + i * k) k ≡ enc (getD bs i d)
@@ -183,3 +200,36 @@ module _ {B : Type 0} (enc : B → List ℕ) where
               getD-blocks dec (splice w o (packed bs)) o k (length bs) i d a
               ∙ ap dec (packed-at i a)
               ∙ back (getD bs i d) (every-at Fit d bs all i)
+
+-- The invariant of a loop that writes the things of a list one after the other, from o on: v is the slice where the loop begins, w the slice now, and k are
+-- written
+pub record Laid {B : Type 0} (enc : B → List ℕ) (v : List ℕ) (o : ℕ) (l : List B) (w : List ℕ) (k : ℕ) : Type 0 where
+  pub within : k ≤ length l
+  pub long : length w ≡ length v
+  pub put : w ≡ splice v o (packed enc (take k l))
+
+module _ {B : Type 0} (enc : B → List ℕ) (v : List ℕ) (o : ℕ) (l : List B) where
+  pub laid-none : Laid enc v o l v 0
+  unfolding packed
+  laid-none = record { within = omega arith; long = refl; put = sym (splice-nil v o) }
+
+  module _ {w : List ℕ} {k : ℕ} (r : Laid enc v o l w k) where
+    -- one more, of size words like all that fit
+    pub laid-more : (size : ℕ) (Fit : B → Type 0) (d : B) {u : List ℕ} → ((b : B) → Fit b → length (enc b) ≡ size) → Every Fit d l → k < length l
+        → u ≡ splice w (o + k * size) (enc (getD l k d)) → Laid enc v o l u (k + 1)
+    unfolding packed
+    laid-more size Fit d {u} sized all h e =
+        let n : length (packed enc (take k l)) ≡ k * size =
+        length-packed enc size Fit d sized (take k l) (every-take Fit d l k all)
+        ∙ ap (λ (j : ℕ). j * size) (length-take-le k l (r .within)) in
+        let p : packed enc (take (k + 1) l) ≡ packed enc (take k l) ++ enc (getD l k d) =
+        ap (packed enc) (take-snoc l k d h) ∙ packed-append enc (take k l) (getD l k d ∷ [])
+        ∙ ap (λ (x : List ℕ). packed enc (take k l) ++ x) (append-nil (enc (getD l k d))) in
+        record {
+          within = omega arith;
+          long = ap length e ∙ length-splice w (o + k * size) (enc (getD l k d)) ∙ r .long;
+          put = e ∙ rw (p, r .put, ← n) (splice-append v o (packed enc (take k l)) (enc (getD l k d)));
+        }
+
+    pub laid-all : length l ≤ k → w ≡ splice v o (packed enc l)
+    laid-all h = r .put ∙ ap (λ (x : List B). splice v o (packed enc x)) (take-all k l h)

@@ -10,7 +10,7 @@ use native.Mathlib.Omega.{arith}
 use borrow.Author.Count.{below-more}
 use lib.ListN.{length, take, drop, getD, set, length-append, length-set, length-drop, List·getD-append, replicate}
 use lib.Seq.{getD-at, ext-getD, getD-set-same, getD-set-other, take-suc, getD-drop}
-use Rattle.mem.specs.Slice.{view, splice, splice-nil, splice-whole, write-step, replicate-snoc, view-before, view-after, view-same}
+use Rattle.mem.specs.Slice.{view, splice, splice-nil, splice-whole, getD-splice-above, write-step, replicate-snoc, view-before, view-after, view-same}
 use Rattle.mem.specs.Cases.{lt-or-le, eq-or-ne}
 use Rattle.mem.specs.Loops.{block-fits}
 
@@ -125,6 +125,10 @@ module _ {A : Type 0} where
 
     pub filled-all : n ≤ i → w ≡ splice v o (tab f n)
     filled-all h = let e : i ≡ n = omega (arith, r .within) in rw e at (r .put)
+
+    -- what lies behind what is written is as it was
+    pub filled-above : (j : ℕ) (d : A) → o + i ≤ j → getD w j d ≡ getD v j d
+    filled-above j d h = ap (λ (l : List A). getD l j d) (r .put) ∙ getD-splice-above v o j (tab f i) d (rw (length-tab f i) h)
 
   -- a whole list is written
   pub filled-whole : {v w : List A} {f : ℕ → A} {i : ℕ} → Filled v 0 f (length v) w i → length v ≤ i → w ≡ tab f (length v)

@@ -1,15 +1,14 @@
 -- The join of a pair in the buffer, and one join after the other: the records stay those of a list of polygons with blank ones behind it, and R4 on the
 -- list that is left gives what R4 on the first one gives. Assumes nothing.
 use mathlib.Core.Path.{_≡_, refl, sym, ap, _∙_}
-use mathlib.Core.List.{List, [], _∷_, _++_, append-assoc, append-nil}
-use Prim.Native.Nat.{ℕ, suc, _+_, _-_, _*_, _≤_, _<_}
+use mathlib.Core.List.{List, [], _∷_, _++_}
+use Prim.Native.Nat.{ℕ, _+_, _-_, _*_, _≤_, _<_}
 use native.Mathlib.Omega.{arith}
 use borrow.Author.Tests.{lt-ltb, le-ltb}
-use lib.ListN.{length, take, set, replicate, length-append, length-set, length-replicate}
-use lib.Seq.{take-at}
+use lib.ListN.{length, set, length-append, length-set}
 use Rattle.mem.specs.Slice.{splice, length-splice, splice-over}
 use Rattle.mem.specs.Tab.{blocks-after}
-use Rattle.mem.specs.Packed.{Every, every-set, every-append, every-same, splice-first}
+use Rattle.mem.specs.Packed.{Every, every-set, every-append}
 use Rattle.rules.specs.Lists.{swapRemove}
 use Rattle.rules.specs.Mesh.{Polygon, noPolygon, polygonAt}
 use Rattle.rules.specs.Merge.{bestPair, joined, joinPair, mergeAll}
@@ -19,9 +18,10 @@ use Rattle.rules.specs.declared.Pair.{Pair}
 use Rattle.laws.specs.Lists.{All, all-imp, every-of-all, every-swap}
 use Rattle.laws.specs.Merge.{Good, Below, Joinable, best-in, length-joined, join-once}
 use Rattle.laws.specs.Fuel.{length-join, merging-turns}
-use Rattle.records.specs.Layout.{vertexSize, polygonSize, mostCorners, vertexIn, verticesAt, polygonsAt, polygonRecords, Small, Tidy}
+use Rattle.records.specs.Layout.{vertexSize, polygonSize, mostCorners, vertexIn, verticesAt, polygonsAt, polygonRecords, Small}
 use Rattle.records.specs.Values.{toPoly, polygonOf, polyWords, Loaded, SwapReady}
-use Rattle.records.specs.Polygons.{length-polygons, length-records, records-append, polygons-are, polygons-take, put-are, tidy-of, loaded-of, stored-words}
+use Rattle.records.specs.Polygons.{length-polygons, length-records, polygons-are, put-are, tidy-of, loaded-of, stored-words}
+use Rattle.records.specs.Blanks.{Blanked, blanks-small, blanked-none, blanked-are, blanked-tidy, blanked-fits, blanked-less}
 use Rattle.records.specs.declared.polygon.Poly.{Poly}
 use Rattle.polys.specs.Ready.{Ready, MergeReady, JoinReady, MergedTo}
 
@@ -29,9 +29,6 @@ use Rattle.polys.specs.Ready.{Ready, MergeReady, JoinReady, MergedTo}
 
 smalls : (nv nvp : ℕ) (ps : List Polygon) → nvp ≤ mostCorners → All (Good (Below nv) nvp) ps → Every Small noPolygon ps
 smalls nv nvp ps h g = every-of-all Small noPolygon (omega arith) (all-imp (λ p (a : Good (Below nv) nvp p). omega (arith, a .short)) g)
-
-blanks-small : (k : ℕ) → Every Small noPolygon (replicate k noPolygon)
-blanks-small k = every-same Small noPolygon k noPolygon (omega arith) (omega arith)
 
 -- ---- the steps of `join_pair`
 
@@ -110,12 +107,10 @@ module _ {w : List ℕ} {o np nvp : ℕ} {m : Pair} (ready : JoinReady w o np nv
 
 pub record Joining (w₀ : List ℕ) (vo nv o np nvp : ℕ) (w : List ℕ) (n : ℕ) : Type 0 where
   pub ps : List Polygon
-  pub long : length ps ≡ n
-  pub within : n ≤ np
-  pub size : length w ≡ length w₀
+  pub left : Blanked w₀ o np w ps n
   pub good : All (Good (Below nv) nvp) ps
-  pub is : w ≡ splice w₀ o (polygonRecords (ps ++ replicate (np - n) noPolygon))
   pub same : merging (verticesAt w₀ vo nv) nvp (polygonsAt w₀ o np) ≡ merging (verticesAt w₀ vo nv) nvp ps
+  pub size : length w ≡ length w₀
 
 merge-on : (vs : List Vertex) (nvp : ℕ) (ps : List Polygon) → 3 < nvp → mergeAll vs nvp ps ≡ merging vs nvp ps
 unfolding mergeAll
@@ -127,55 +122,28 @@ merge-off vs nvp ps h = rw (mergeAll, le-ltb 3 nvp h)
 
 module _ {w₀ : List ℕ} {vo nv o np nvp : ℕ} (ready : MergeReady w₀ vo nv o np nvp) where
   pub joining-begin : Joining w₀ vo nv o np nvp w₀ np
-  joining-begin =
-      let z : np - np ≡ 0 = omega arith in
-      record {
-        ps = polygonsAt w₀ o np;
-        long = length-polygons w₀ o np;
-        within = omega arith;
-        size = refl;
-        good = ready .ready .good;
-        is = rw (z, append-nil) (ready .tidy .is);
-        same = refl;
-      }
+  joining-begin = record {
+    ps = polygonsAt w₀ o np;
+    left = blanked-none w₀ o np (ready .ready .fits) (ready .tidy) (smalls nv nvp (polygonsAt w₀ o np) (ready .ready .most) (ready .ready .good));
+    good = ready .ready .good;
+    same = refl;
+    size = refl;
+  }
 
   module _ {w : List ℕ} {n : ℕ} (g : Joining w₀ vo nv o np nvp w n) where
-    small : Every Small noPolygon (g .ps)
-    small = smalls nv nvp (g .ps) (ready .ready .most) (g .good)
-
-    all-small : Every Small noPolygon (g .ps ++ replicate (np - n) noPolygon)
-    all-small = every-append Small noPolygon (g .ps) (replicate (np - n) noPolygon) small (blanks-small (np - n))
-
-    count : length (g .ps ++ replicate (np - n) noPolygon) ≡ np
-    count = simp (length-append, length-replicate) (omega (arith, g .long, g .within))
-
     are : polygonsAt w o n ≡ g .ps
-    are =
-        sym (polygons-take w o np n (g .within))
-        ∙ ap (take n) (polygons-are w₀ o np (g .ps ++ replicate (np - n) noPolygon) (g .is) count all-small (ready .ready .fits))
-        ∙ take-at (g .ps) (replicate (np - n) noPolygon) n (g .long)
+    are = blanked-are w₀ o np (ready .ready .fits) (g .left)
 
     -- the vertices stand before the polygons
     seen : verticesAt w vo nv ≡ verticesAt w₀ vo nv
     unfolding verticesAt
-    seen = rw (g .is) (blocks-after vertexIn w₀ o vo vertexSize nv (polygonRecords (g .ps ++ replicate (np - n) noPolygon)) (ready .ready .behind))
-
-    -- qs in the place of ps
-    first-anew : (qs : List Polygon) → Every Small noPolygon qs → length qs ≡ n
-        → splice w o (polygonRecords qs) ≡ splice w₀ o (polygonRecords (qs ++ replicate (np - n) noPolygon))
-    first-anew qs h e =
-        rw (g .is, records-append (g .ps) (replicate (np - n) noPolygon), records-append qs (replicate (np - n) noPolygon))
-        (splice-first w₀ o (polygonRecords (g .ps)) (polygonRecords (replicate (np - n) noPolygon)) (polygonRecords qs)
-        (length-records qs h ∙ ap (λ (k : ℕ). k * polygonSize) (e ∙ sym (g .long)) ∙ sym (length-records (g .ps) small)))
-
-    tidy : Tidy w o n
-    tidy = record { is = rw are (g .is ∙ sym (first-anew (g .ps) small (g .long))) }
+    seen = rw (g .left .is) (blocks-after vertexIn w₀ o vo vertexSize nv _ (ready .ready .behind))
 
     pub ready-now : Ready w vo nv o n nvp
     ready-now = record {
       placed = record { fits = omega (arith, g .size, ready .ready .placed .fits); grid = rw seen (ready .ready .placed .grid) };
       behind = ready .ready .behind;
-      fits = omega (arith, g .size, ready .ready .fits, g .within);
+      fits = blanked-fits w₀ o np (ready .ready .fits) (g .left);
       most = ready .ready .most;
       good = rw are (g .good);
     }
@@ -183,12 +151,12 @@ module _ {w₀ : List ℕ} {vo nv o np nvp : ℕ} (ready : MergeReady w₀ vo nv
     -- all is done
     merged-of : mergeAll (verticesAt w₀ vo nv) nvp (polygonsAt w₀ o np) ≡ g .ps → MergedTo w₀ w vo nv o np nvp n
     merged-of e = record {
-      count = sym (ap length e ∙ g .long);
-      is = rw e (g .is);
-      fewer = g .within;
+      count = sym (ap length e ∙ g .left .long);
+      is = rw e (g .left .is);
+      fewer = g .left .within;
       polygons = are ∙ sym e;
       good = rw e (g .good);
-      tidy = tidy;
+      tidy = blanked-tidy w₀ o np (ready .ready .fits) (g .left);
     }
 
     module _ (m : Pair) (e : m ≡ bestPair (verticesAt w vo nv) nvp (polygonsAt w o n)) where
@@ -199,13 +167,13 @@ module _ {w₀ : List ℕ} {vo nv o np nvp : ℕ} (ready : MergeReady w₀ vo nv
       joinable h = rw best (best-in (verticesAt w₀ vo nv) nvp (g .ps) (rw best at h))
 
       pub some-left : 0 < m .length → 0 < n
-      some-left h = omega (arith, joinable h .below, g .long)
+      some-left h = omega (arith, joinable h .below, g .left .long)
 
       pub join-ready : 0 < m .length → JoinReady w o n nvp m
       join-ready h = record {
         fits = ready-now .fits;
-        tidy = tidy;
-        small = rw are small;
+        tidy = blanked-tidy w₀ o np (ready .ready .fits) (g .left);
+        small = rw are (g .left .small);
         joinable = rw are (joinable h);
         most = ready .ready .most;
       }
@@ -215,21 +183,13 @@ module _ {w₀ : List ℕ} {vo nv o np nvp : ℕ} (ready : MergeReady w₀ vo nv
           → Joining w₀ vo nv o np nvp v (n - 1)
       joining-more {v} h l q =
           let qs = joinPair (g .ps) m in
-          let long : length qs ≡ n - 1 = length-join (g .ps) m ∙ ap (λ (k : ℕ). k - 1) (g .long) in
           let good : All (Good (Below nv) nvp) qs = join-once (verticesAt w₀ vo nv) (Below nv) nvp (g .ps) m (joinable h) (g .good) .good in
-          let k : np - (n - 1) ≡ suc (np - n) = omega (arith, g .within, some-left h) in
           record {
             ps = qs;
-            long = long;
-            within = omega (arith, g .within);
-            size = l ∙ g .size;
+            left = blanked-less w₀ o np (ready .ready .fits) (g .left) qs (some-left h) (smalls nv nvp qs (ready .ready .most) good)
+                (length-join (g .ps) m ∙ ap (λ (k : ℕ). k - 1) (g .left .long)) (rw are at q);
             good = good;
-            is =
-                (rw are at q)
-                ∙ first-anew (qs ++ (noPolygon ∷ []))
-                (every-append Small noPolygon qs (noPolygon ∷ []) (smalls nv nvp qs (ready .ready .most) good) (blanks-small 1))
-                (simp length-append (omega (arith, long, some-left h)))
-                ∙ ap (λ (x : List Polygon). splice w₀ o (polygonRecords x)) (rw (append-assoc, k) refl);
+            size = l ∙ g .size;
             same =
                 g .same ∙ merging-turns (verticesAt w₀ vo nv) nvp (g .ps) .join (rw best at h)
                 ∙ ap (λ (x : Pair). merging (verticesAt w₀ vo nv) nvp (joinPair (g .ps) x)) (sym best);

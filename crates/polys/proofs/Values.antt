@@ -24,9 +24,6 @@ use Rattle.polys.specs.Ready.{Ready, Joint, pairOf}
 
 -- ---- corners
 
-pub below-at : (p : Poly) (nv i : ℕ) → length (p .corners) ≡ mostCorners → All (Below nv) (cornersOf p) → On p i → getD (cornersOf p) i 0 < nv
-below-at p nv i l h o = all-at h i 0 (rw (length-corners p l (o .most)) (o .below))
-
 -- a place counted round
 pub on-round : (p : Poly) (i k : ℕ) → On p i → On p (k % p .n)
 on-round p i k o = record { below = mod-lt k (omega (arith, o .below)); most = o .most }

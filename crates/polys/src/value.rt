@@ -16,20 +16,11 @@ use plane::measure::length_squared;
 use plane::ring::next;
 use plane::turn::is_left;
 use records::polygon::Poly;
-use records::polygon::corner;
 use records::polygon::load_at;
-use records::vertex::place_at;
+use records::polygon::place_of;
 use rules::Pair;
 use rules::Point;
 use rules::Shared;
-
-// Where corner i of p stands.
-fn place_of(work: &[u32], vo: usize, nv: usize, p: Poly, i: usize) -> Point
-    requires { ⌜ Placed (now work) vo nv × All (Below nv) (cornersOf p) × On p i ⌝ }
-    ensures { λ r. ⌜ (r ≡ placeOf (verticesAt (now (work .entry)) vo nv) (getD (cornersOf p) i 0)) × InGrid r ⌝ }
-{
-    place_at(work, vo, nv, corner(p, i) as usize)
-}
 
 // Whether the corner where p's side i starts turns left into q, past its side j.
 fn turns_left(work: &[u32], vo: usize, nv: usize, p: Poly, q: Poly, i: usize, j: usize) -> bool

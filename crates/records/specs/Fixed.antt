@@ -49,7 +49,7 @@ unfolding wordAt
 word-is w at zero = ap (λ (m : ℕ). getD w m 0) (sym (add-zero at))
 word-is w at (suc k) = refl
 
-words-view : (w : List ℕ) (at n : ℕ) → at + n ≤ length w → tab (wordAt w at) n ≡ view w at n
+pub words-view : (w : List ℕ) (at n : ℕ) → at + n ≤ length w → tab (wordAt w at) n ≡ view w at n
 words-view w at n h = tab-cong _ _ n (λ k a. word-is w at k) ∙ tab-view w at n 0 h
 
 module _ {B : Type 0} {manyAt : List ℕ → ℕ → ℕ → List B} {words : List B → List ℕ} {dec : List ℕ → B} {enc : B → List ℕ} {size : ℕ} {d : B}

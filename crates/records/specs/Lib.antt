@@ -5,4 +5,5 @@ pub mod Values
 -- what is stored is what is loaded: laws of the records
 pub mod Vertices
 pub mod Polygons
+pub mod Blanks
 pub mod Fixed

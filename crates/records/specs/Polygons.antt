@@ -15,6 +15,8 @@ use Rattle.rules.specs.Links.{none}
 use Rattle.rules.specs.Exits.{padded}
 use Rattle.rules.specs.Mesh.{Polygon, noPolygon, polygonAt, sideEnd}
 use Rattle.laws.specs.Ring.{next-below}
+use Rattle.laws.specs.Lists.{All, all-at}
+use Rattle.laws.specs.Merge.{Below}
 use Rattle.records.specs.declared.polygon.Poly.{Poly}
 use Rattle.records.specs.Layout.{polygonSize, mostCorners, spareWords, polygonIn, polygonsAt, polygonWords, polygonRecords, Small, Tidy}
 use Rattle.records.specs.Values.{toPoly, cornersOf, polygonOf, polyWords, Loaded, On, SwapReady}
@@ -32,11 +34,11 @@ padded-splice n cs h =
     splice-eq (replicate n none) 0 cs (rw (length-replicate n none) (omega arith))
     ∙ ap (λ (r : List ℕ). cs ++ r) (rw (zero-add (length cs)) (drop-replicate (length cs) n))
 
-length-padded : (n : ℕ) (cs : List ℕ) → length cs ≤ n → length (padded n cs) ≡ n
+pub length-padded : (n : ℕ) (cs : List ℕ) → length cs ≤ n → length (padded n cs) ≡ n
 unfolding padded
 length-padded n cs h = simp (length-append, length-replicate) (omega arith)
 
-take-padded : (n : ℕ) (cs : List ℕ) → take (length cs) (padded n cs) ≡ cs
+pub take-padded : (n : ℕ) (cs : List ℕ) → take (length cs) (padded n cs) ≡ cs
 unfolding padded
 take-padded n cs = take-at cs (replicate (n - length cs) none) (length cs) refl
 
@@ -84,9 +86,13 @@ module _ (p : Poly) (l : length (p .corners) ≡ mostCorners) (i : ℕ) (o : On 
   pub on-next : (k : ℕ) → k ≡ next i (p .n) → On p k
   on-next k e = record { below = rw e (next-below i (p .n) (omega (arith, o .below))); most = o .most }
 
+-- a corner is one of nv vertices where all are
+pub below-at : (p : Poly) (nv i : ℕ) → length (p .corners) ≡ mostCorners → All (Below nv) (cornersOf p) → On p i → getD (cornersOf p) i 0 < nv
+below-at p nv i l h o = all-at h i 0 (rw (length-corners p l (o .most)) (o .below))
+
 -- ---- records
 
-length-words : (p : Polygon) → Small p → length (polygonWords p) ≡ polygonSize
+pub length-words : (p : Polygon) → Small p → length (polygonWords p) ≡ polygonSize
 unfolding polygonWords
 length-words p h = simp (length-append, length-replicate) (omega (arith, length-padded mostCorners (p .corners) h))
 

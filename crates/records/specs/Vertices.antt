@@ -4,15 +4,17 @@
 use mathlib.Core.Path.{_≡_, refl, sym, ap, _∙_}
 use mathlib.Core.List.{List, [], _∷_, _++_, append-nil}
 use mathlib.Core.Logic.{⊎-elim, _≢_}
-use Prim.Native.Nat.{ℕ, _+_, _*_, _≤_, _<_}
+use Prim.Native.Nat.{ℕ, _+_, _-_, _*_, _≤_, _<_}
 use native.Mathlib.Omega.{arith}
 use native.Mathlib.Nat.{add-zero}
-use lib.ListN.{length, getD, set, length-append, length-set, List·getD-append}
+use lib.ListN.{length, take, drop, getD, set, length-append, length-set, List·getD-append}
 use lib.Seq.{ext-getD, getD-set-same, getD-set-other, getD-at}
 use Rattle.mem.specs.Slice.{view, splice, getD-view, splice-view, setEach, stored-each}
 use Rattle.mem.specs.Tab.{tab, tab-snoc, tab-cong, length-tab, getD-tab, blocks, length-blocks, getD-blocks}
-use Rattle.mem.specs.Packed.{Every, every-of, packed, packed-append, packed-set, length-packed, packed-at}
-use Rattle.mem.specs.Cases.{eq-or-ne}
+use Rattle.mem.specs.Packed.{Every, every-of, packed, packed-append, packed-take, packed-drop, packed-set, length-packed, packed-at}
+use Rattle.mem.specs.Cases.{lt-or-le, eq-or-ne}
+use Rattle.rules.specs.Lists.{without}
+use Rattle.laws.specs.Lists.{without-below, without-above, length-without}
 use Rattle.rules.specs.Plane.{InGrid, onPlane}
 use Rattle.rules.specs.Weld.{noVertex}
 use Rattle.rules.specs.Mesh.{placeOf}
@@ -133,6 +135,31 @@ unfolding vertexRecords Any
 records-mark vs ms k m e h =
     packed-set markedWords vertexSize Any none sized (withMarks vs ms) k (record { vertex = getD vs k noVertex; mark = m }) (every (withMarks vs ms)) tt (rw length-with h)
     ∙ ap (packed markedWords) (sym (with-mark vs ms k m e h))
+
+-- one vertex gone
+with-without : (vs : List Vertex) (ms : List ℕ) (i : ℕ) → length ms ≡ length vs → i < length vs → withMarks (without vs i) (without ms i) ≡ without (withMarks vs ms) i
+with-without vs ms i e h =
+    let l : length (withMarks vs ms) ≡ length vs = length-with vs ms in
+    let n : length (without vs i) ≡ length vs - 1 = length-without vs i h in
+    ext-getD none (withMarks (without vs i) (without ms i)) (without (withMarks vs ms) i)
+    (length-with (without vs i) (without ms i) ∙ n ∙ sym (length-without (withMarks vs ms) i (rw l h) ∙ ap (λ (k : ℕ). k - 1) l))
+    (λ j a.
+    let b : j < length (without vs i) = rw length-with at a in
+    marked-at (without vs i) (without ms i) j b ∙ ⊎-elim
+    (λ (q : j < i). rw (without-below vs i j noVertex h q, without-below ms i j 0 (omega arith) q, without-below (withMarks vs ms) i j none (rw l h) q)
+    (sym (marked-at vs ms j (omega arith))))
+    (λ (q : i ≤ j). rw (without-above vs i j noVertex h q, without-above ms i j 0 (omega arith) q, without-above (withMarks vs ms) i j none (rw l h) q)
+    (sym (marked-at vs ms (j + 1) (omega arith))))
+    (lt-or-le j i))
+
+-- the records behind it moved down by one
+pub records-without : (vs : List Vertex) (ms : List ℕ) (i : ℕ) → length ms ≡ length vs → i < length vs
+    → take (i * vertexSize) (vertexRecords vs ms) ++ drop ((i + 1) * vertexSize) (vertexRecords vs ms) ≡ vertexRecords (without vs i) (without ms i)
+unfolding vertexRecords without
+records-without vs ms i e h =
+    let l = withMarks vs ms in
+    rw (packed-take markedWords vertexSize Any none sized l i (every l), packed-drop markedWords vertexSize Any none sized l (i + 1) (every l))
+    (sym (packed-append markedWords (take i l) (drop (i + 1) l)) ∙ ap (packed markedWords) (sym (with-without vs ms i e h)))
 
 -- ---- what the records at o hold
 

@@ -6,15 +6,23 @@ ghost use Prim.Native.Nat.{_+_, _*_, _≤_, _<_};
 ghost use lib.ListN.{length, getD};
 ghost use Rattle.mem.specs.Slice.{view, splice};
 ghost use Rattle.rules.specs.Lists.{swapRemove};
-ghost use Rattle.rules.specs.Mesh.{noPolygon, polygonAt, sideEnd};
-ghost use Rattle.records.specs.Layout.{polygonSize, mostCorners, polygonIn, polygonsAt, polygonRecords};
+ghost use Rattle.rules.specs.Plane.{InGrid};
+ghost use Rattle.rules.specs.Mesh.{noPolygon, polygonAt, sideEnd, placeOf};
+ghost use Rattle.laws.specs.Lists.{All};
+ghost use Rattle.laws.specs.Merge.{Below};
+ghost use Rattle.records.specs.Layout.{polygonSize, mostCorners, polygonIn, polygonsAt, polygonRecords, verticesAt, Placed};
 ghost use Rattle.records.specs.Values.{cornersOf, polyWords, toPoly, Loaded, On, SwapReady};
+use crate::vertex::place_at;
 use plane::ring::next;
+use rules::Point;
 
 pub const POLYGON_SIZE: usize = 18;
 
 // The most corners a polygon can have.
 pub const MOST_CORNERS: usize = 12;
+
+// How many words a polygon's links have: one for each corner that it can have.
+pub const LINK_SIZE: usize = 12;
 
 // Where a polygon's words have its corners, and what is kept behind them.
 const CORNERS_AT: usize = 3;
@@ -100,6 +108,14 @@ pub fn side_end(p: Poly, i: usize) -> u32
     ensures { λ r. ⌜ r ≡ sideEnd (cornersOf p) i ⌝ }
 {
     corner(p, next(i, p.n))
+}
+
+// Where corner i of p stands.
+pub fn place_of(work: &[u32], vo: usize, nv: usize, p: Poly, i: usize) -> Point
+    requires { ⌜ Placed (now work) vo nv × All (Below nv) (cornersOf p) × On p i ⌝ }
+    ensures { λ r. ⌜ (r ≡ placeOf (verticesAt (now (work .entry)) vo nv) (getD (cornersOf p) i 0)) × InGrid r ⌝ }
+{
+    place_at(work, vo, nv, corner(p, i) as usize)
 }
 
 // No polygon.

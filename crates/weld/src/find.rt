@@ -1,7 +1,7 @@
 // The vertex that is the same as a given one, looked for in its bucket.
 ghost use mathlib.Core.Path.{_≡_};
 ghost use Prim.Native.Nat.{_+_, _≤_, _<_};
-ghost use lib.ListN.{length, getD};
+ghost use lib.ListN.{length};
 ghost use Rattle.mem.specs.Slice.{view};
 ghost use Rattle.rules.specs.Lists.{apart};
 ghost use Rattle.rules.specs.Weld.{highestBelow};
@@ -9,6 +9,7 @@ ghost use Rattle.records.specs.Layout.{vertexSize, vertexIn, verticesAt};
 ghost use Rattle.weld.specs.Tables.{agree, Tabled};
 use crate::hash::compute_vertex_hash;
 use records::vertex::VERTEX_SIZE;
+use records::words::link_at;
 use rules::Found;
 use rules::Vertex;
 
@@ -38,21 +39,6 @@ fn agrees(work: &[u32], at: usize, v: Vertex, height: u16, c: usize) -> bool
         return gap(work[at + 1], v.y as u32) <= height as u32;
     }
     work[at + 2] == v.z as u32
-}
-
-// A word as a place.
-fn as_index(x: u32) -> usize
-    ensures { λ r. ⌜ r ≡ x ⌝ }
-{
-    x as usize
-}
-
-// The word at `at`, as a place.
-fn link_at(work: &[u32], at: usize) -> usize
-    requires { ⌜ at < length (now work) ⌝ }
-    ensures { λ r. ⌜ r ≡ getD (now (work .entry)) at 0 ⌝ }
-{
-    as_index(work[at])
 }
 
 // The highest-numbered of the nv vertices that is the same as v. Those of its bucket are looked at from the newest on, and

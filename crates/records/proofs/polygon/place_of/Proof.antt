@@ -1,11 +1,11 @@
--- `polys::value::place_of` meets its contract: a corner is one of the vertices. Assumes nothing.
+-- `records::polygon::place_of` meets its contract: a corner is one of the vertices. Assumes nothing.
 use mathlib.Core.Path.{ap, _∙_}
 use borrow.Author.Needs.{needs}
 use Rattle.rules.specs.Mesh.{placeOf}
 use Rattle.records.specs.Layout.{verticesAt}
-use Rattle.polys.proofs.Values.{below-at}
-use Rattle.polys.proofs.value.place_of.Statement.{statement}
-use Rattle.polys.proofs.value.place_of.Tie as tie
+use Rattle.records.specs.Polygons.{below-at}
+use Rattle.records.proofs.polygon.place_of.Statement.{statement}
+use Rattle.records.proofs.polygon.place_of.Tie as tie
 
 corner-requires : tie.Need-corner-requires
 corner-requires c κs = search needs
