@@ -18,13 +18,6 @@ use Rattle.plane.specs.Points.{pointOf, pointsIn, GridWords}
 use Rattle.ears.specs.Ring.{Ring, Ends}
 
 -- ---- the place before one
-pub prev-below : (i n : ℕ) → i < n → prev i n < n
-unfolding prev
-prev-below i n h = ⊎-elim
-    (λ (k : i < 1). rw (lt-leb 1 i k) (omega arith))
-    (λ (k : 1 ≤ i). rw (le-leb 1 i k) (omega arith))
-    (lt-or-le i 1)
-
 -- ---- the point at a place
 
 pub length-points : (pts : List ℕ) → length (pointsIn pts) ≡ length pts / 2

@@ -12,7 +12,7 @@ use lib.ListN.{take, drop}
 use Rattle.mem.specs.Slice.{view, splice, length-view}
 use Rattle.rules.specs.Lists.{without}
 use Rattle.laws.specs.Ring.{next-below}
-use Rattle.ears.proofs.Rings.{prev-below}
+use Rattle.laws.specs.Ring.{prev-below}
 use Rattle.ears.proofs.Parts.{gap-ready, ear-cut}
 use Rattle.mem.specs.Slice.{lent-part}
 use Rattle.ears.proofs.cut.cut_ear.Statement.{statement}

@@ -2,7 +2,7 @@
 use native.Mathlib.Omega.{arith}
 use borrow.Author.Needs.{needs}
 use Rattle.laws.specs.Ring.{next-below}
-use Rattle.ears.proofs.Rings.{prev-below}
+use Rattle.laws.specs.Ring.{prev-below}
 use Rattle.ears.proofs.Parts.{marked-ready, gap-marked}
 use Rattle.ears.proofs.cut.remark_gap.Statement.{statement}
 use Rattle.ears.proofs.cut.remark_gap.Tie as tie

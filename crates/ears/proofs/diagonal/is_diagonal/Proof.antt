@@ -4,7 +4,7 @@ use native.Mathlib.Omega.{arith}
 use borrow.Author.Needs.{needs}
 use Rattle.rules.specs.Diagonal.{isDiagonal}
 use Rattle.laws.specs.Ring.{next-below}
-use Rattle.ears.proofs.Rings.{prev-below}
+use Rattle.laws.specs.Ring.{prev-below}
 use Rattle.ears.proofs.diagonal.is_diagonal.Statement.{statement}
 use Rattle.ears.proofs.diagonal.is_diagonal.Tie as tie
 

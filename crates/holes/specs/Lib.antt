@@ -1,0 +1,7 @@
+-- what the functions ask for, and what they leave: definitions that contracts cite
+-- of the test
+pub mod Verdict
+-- of the clearing: the polygons and the vertex go
+pub mod Clear
+-- of the filling of the hole
+pub mod Fill

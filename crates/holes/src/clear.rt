@@ -1,0 +1,80 @@
+// The polygons that hold a vertex go, and in the others numbers above it drop by one.
+ghost use mathlib.Core.Path.{_≡_};
+ghost use mathlib.Core.List.{map};
+ghost use Prim.Native.Nat.{_≤_};
+ghost use Rattle.mem.specs.Slice.{splice};
+ghost use Rattle.rules.specs.Removal.{droppedIn};
+ghost use Rattle.records.specs.Layout.{mostCorners, polygonsAt, polygonRecords};
+ghost use Rattle.records.specs.Values.{polygonOf, Loaded};
+ghost use Rattle.holes.specs.Verdict.{Standing};
+ghost use Rattle.holes.specs.Clear.{ClearReady, TakenTo, ClearedTo};
+use records::polygon::NONE;
+use records::polygon::Poly;
+use records::polygon::corner;
+use records::polygon::load_at;
+use records::polygon::store_at;
+use records::polygon::swap_remove;
+use trails::sides::dropped;
+use trails::sides::is_held;
+
+// Of the np polygons at o, those that hold the vertex go: the last takes such a one's place, and is looked at next. The
+// result says how many are left.
+fn take_out(work: &mut [u32], o: usize, np: usize, rem: u32) -> usize
+    requires { ⌜ ClearReady (now work) o np ⌝ }
+    ensures { λ r. ⌜ TakenTo (now (work .entry)) (now (work .exit)) o np rem r ⌝ }
+{
+    let mut m = np;
+    let mut i = 0;
+    while i < m {
+        let p = load_at(work, o, m, i);
+        if is_held(p, rem) {
+            swap_remove(work, o, m, i);
+            m -= 1;
+            continue;
+        }
+        i += 1;
+    }
+    m
+}
+
+// The polygon in the numbers that hold once the vertex has gone.
+fn dropped_poly(p: Poly, rem: u32) -> Poly
+    requires { ⌜ p .n ≤ mostCorners ⌝ }
+    ensures { λ r. ⌜ Loaded (droppedIn rem (polygonOf p)) r ⌝ }
+{
+    let mut c = [NONE; 12];
+    let mut i = 0;
+    while i < p.n {
+        c[i] = dropped(corner(p, i), rem);
+        i += 1;
+    }
+    Poly {
+        corners: c,
+        n: p.n,
+        region: p.region,
+        code: p.code,
+    }
+}
+
+// The n polygons at o get those numbers.
+fn drop_numbers(work: &mut [u32], o: usize, n: usize, rem: u32)
+    requires { ⌜ Standing (now work) o n ⌝ }
+    ensures { λ _. ⌜ now (work .exit) ≡ splice (now (work .entry)) o (polygonRecords (map (droppedIn rem) (polygonsAt (now (work .entry)) o n))) ⌝ }
+{
+    let mut i = 0;
+    while i < n {
+        let p = load_at(work, o, n, i);
+        store_at(work, o, n, i, dropped_poly(p, rem));
+        i += 1;
+    }
+}
+
+// Both: the polygons that are left once the vertex has gone, with blank records behind them. The result says how many.
+pub fn clear_polygons(work: &mut [u32], o: usize, np: usize, rem: u32) -> usize
+    requires { ⌜ ClearReady (now work) o np ⌝ }
+    ensures { λ r. ⌜ ClearedTo (now (work .entry)) (now (work .exit)) o np rem r ⌝ }
+{
+    let m = take_out(work, o, np, rem);
+    drop_numbers(work, o, m, rem);
+    m
+}
