@@ -2,6 +2,7 @@
 --
 -- lists, sides and rings, and what is measured
 pub mod Lists
+pub mod Searches
 pub mod Sides
 pub mod Ring
 pub mod Measures

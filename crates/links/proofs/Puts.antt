@@ -7,16 +7,16 @@ use native.Mathlib.Omega.{arith}
 use native.Mathlib.Nat.{le-refl}
 use lib.ListN.{length, getD, set, length-append, length-set, List·getD-append}
 use lib.Seq.{getD-at, getD-set-same, getD-set-other}
-use Rattle.mem.specs.Slice.{view, splice, splice-one, splice-view, splice-behind, set-part, length-splice, getD-view, view-after, view-set-after}
-use Rattle.mem.specs.Shelves.{shelved}
+use Rattle.mem.specs.Slice.{view, splice, splice-view, view-after}
+use Rattle.mem.specs.Shelves.{chained-put, shelved}
 use Rattle.mem.specs.Loops.{block-fits}
 use Rattle.mem.specs.Cases.{eq-or-ne}
-use Rattle.mem.specs.Chain.{firsts, nexts, firsts-more, nexts-more}
+use Rattle.mem.specs.Chain.{firsts, nexts}
 use Rattle.rules.specs.Links.{noEdge, joinedTo, joinAt}
 use Rattle.rules.specs.declared.Edge.{Edge}
 use Rattle.rules.specs.declared.Found.the-variants.{At}
 use Rattle.records.specs.Layout.{edgeSize, edgeWords, edgesAt, edgeRecords}
-use Rattle.records.specs.Fixed.{edge-fixed, fixed-count, fixed-append, fixed-one, fixed-put}
+use Rattle.records.specs.Fixed.{edge-fixed, fixed-count, fixed-append, fixed-length, fixed-one, fixed-put}
 use Rattle.links.specs.declared.edges.EdgeTables.{EdgeTables}
 use Rattle.links.specs.Tables.{lowOf, edged, Room, Edged}
 use Rattle.links.specs.Standing.{holds-now}
@@ -56,69 +56,20 @@ module _ (w : List ℕ) (t : EdgeTables) (nv ne : ℕ) (s : Edged w t nv ne) whe
     unfolding b
     in-range = rw key-new low
 
-    more : length (es ++ (e ∷ [])) ≡ length es + 1
-    more = length-append es (e ∷ [])
-
-    -- the vertex's first
-    first-put : splice w (t .firsts) (firsts (lowOf (es ++ (e ∷ []))) nv (length (es ++ (e ∷ [])))) ≡ set w (t .firsts + b) (ne + 1)
-    unfolding es b
-    first-put =
-        ap (λ (n : ℕ). splice w (t .firsts) (firsts (lowOf (es ++ (e ∷ []))) nv n)) more
-        ∙ ap (splice w (t .firsts)) (firsts-more (lowOf es) (lowOf (es ++ (e ∷ []))) nv (length es) key-old in-range
-        ∙ rw (key-new, ← holds-now s .firsts, many) refl)
-        ∙ sym (set-part w (t .firsts) nv b (ne + 1) low (omega (arith, r .firsts, r .edges, r .nexts)))
-
-    module _ (x : List ℕ) (ex : x ≡ set w (t .firsts + b) (ne + 1)) where
-      lx : length x ≡ length w
-      lx = ap length ex ∙ length-set w (t .firsts + b) (ne + 1)
-
-      front : t .firsts + b < t .edges
-      unfolding b
-      front = omega (arith, low, r .firsts)
-
-      seen : (o n : ℕ) → t .edges ≤ o → view x o n ≡ view w o n
-      seen o n h = ap (λ (l : List ℕ). view l o n) ex ∙ view-set-after w (t .firsts + b) o n (ne + 1) (omega (arith, front))
-
-      -- its record
-      record-put : splice x (t .edges) (edgeRecords (es ++ (e ∷ []))) ≡ splice x (t .edges + ne * edgeSize) (edgeWords e)
-      unfolding es
-      record-put =
-          ap (splice x (t .edges)) (fixed-append edge-fixed es (e ∷ [])
-          ∙ ap (λ (l : List ℕ). edgeRecords es ++ l) (fixed-one edge-fixed e)
-          ∙ ap (λ (l : List ℕ). l ++ edgeWords e) (sym (seen (t .edges) (ne * edgeSize) (omega arith) ∙ (rw many at (holds-now s .edges)))))
-          ∙ sym (splice-behind x (t .edges) (ne * edgeSize) (edgeWords e) (omega (arith, lx, r .edges, r .nexts)))
-
-      module _ (y : List ℕ) (ey : y ≡ splice x (t .edges + ne * edgeSize) (edgeWords e)) where
-        ly : length y ≡ length w
-        ly = ap length ey ∙ length-splice x (t .edges + ne * edgeSize) (edgeWords e) ∙ lx
-
-        behind : view y (t .nexts) ne ≡ nexts (lowOf es) (length es)
-        unfolding es edgeWords
-        behind =
-            ap (λ (l : List ℕ). view l (t .nexts) ne) ey
-            ∙ view-after x (t .edges + ne * edgeSize) (t .nexts) ne (edgeWords e) (omega (arith, r .edges))
-            ∙ seen (t .nexts) ne (omega (arith, r .edges)) ∙ ap (view w (t .nexts)) (sym many) ∙ holds-now s .nexts
-
-        was : getD (firsts (lowOf es) nv (length es)) b 0 ≡ getD w (t .firsts + b) 0
-        unfolding es b
-        was = rw (← holds-now s .firsts) (getD-view w (t .firsts) nv b 0 low)
-
-        -- its next
-        next-put : splice y (t .nexts) (nexts (lowOf (es ++ (e ∷ []))) (length (es ++ (e ∷ [])))) ≡ set y (t .nexts + ne) (getD w (t .firsts + b) 0)
-        next-put =
-            ap (λ (n : ℕ). splice y (t .nexts) (nexts (lowOf (es ++ (e ∷ []))) n)) more
-            ∙ ap (splice y (t .nexts)) (nexts-more (lowOf es) (lowOf (es ++ (e ∷ []))) nv (length es) key-old in-range
-            ∙ rw (key-new, was, ← behind) refl)
-            ∙ sym (splice-behind y (t .nexts) ne (getD w (t .firsts + b) 0 ∷ []) (omega (arith, ly, r .nexts)))
-            ∙ splice-one y (t .nexts + ne) (getD w (t .firsts + b) 0)
-
     -- the steps of `put_edge`: y is the buffer once the record is stored
     pub put-steps : {y : List ℕ} → y ≡ splice (set w (t .firsts + e .low) (ne + 1)) (t .edges + ne * edgeSize) (edgeWords e)
         → set y (t .nexts + ne) (getD w (t .firsts + e .low) 0) ≡ edged w t nv (edgesAt w (t .edges) ne ++ (e ∷ []))
-    unfolding edged shelved es b
+    unfolding edged es b
     put-steps {y} ey =
-        let x = set w (t .firsts + e .low) (ne + 1) in
-        rw (first-put, record-put x refl, ← ey) (sym (next-put x refl y ey))
+        let R = edgeRecords es in
+        let l : length R ≡ ne * edgeSize = fixed-length edge-fixed es ∙ ap (λ (k : ℕ). k * edgeSize) many in
+        let six : length (edgeWords e) ≡ edgeSize = edge-fixed .sized e in
+        let more : length (es ++ (e ∷ [])) ≡ ne + 1 = length-append es (e ∷ []) ∙ ap (λ (k : ℕ). k + 1) many in
+        let words : edgeRecords (es ++ (e ∷ [])) ≡ R ++ edgeWords e =
+        fixed-append edge-fixed es (e ∷ []) ∙ ap (λ (k : List ℕ). R ++ k) (fixed-one edge-fixed e) in
+        let put = chained-put w (t .firsts) nv (t .edges) R (t .nexts) (length es) (lowOf es) (lowOf (es ++ (e ∷ []))) (edgeWords e) (r .firsts)
+        (omega (arith, r .edges)) (omega (arith, r .nexts, many)) key-old in-range (holds-now s .firsts) (rw l (rw many at (holds-now s .edges))) (holds-now s .nexts) in
+        ap (λ (x : List ℕ). set x (t .nexts + ne) (getD w (t .firsts + e .low) 0)) ey ∙ rw (more, words) (rw (l, key-new, many) at put)
 
   -- ---- a record is joined
   module _ (k i j : ℕ) (h : k < ne) where

@@ -1,12 +1,15 @@
 -- Three lists written into a slice, each behind the one before: what stands in each place, and what becomes of it when they are written again or when
 -- other words are written behind them. Tables of numbers chained by their keys lie so: the first of each key, the numbers' records, the next of each number.
 -- Assumes nothing.
--- Key: `shelf-first`, `shelf-second`, `shelf-third`: each list stands in its place; `shelved-again`: written again, only the last writing shows.
-use mathlib.Core.Path.{_≡_, sym, ap, _∙_}
-use mathlib.Core.List.{List}
-use Prim.Native.Nat.{ℕ, _+_, _≤_}
+-- Key: `shelf-first`, `shelf-second`, `shelf-third`: each list stands in its place; `shelved-again`: written again, only the last writing shows;
+-- `chained-put`: one more number in tables of chains.
+use mathlib.Core.Path.{_≡_, sym, ap, ap₂, _∙_}
+use mathlib.Core.List.{List, [], _∷_, _++_}
+use Prim.Native.Nat.{ℕ, _+_, _≤_, _<_}
 use native.Mathlib.Omega.{arith}
-use lib.ListN.{length}
+use lib.ListN.{length, getD, set, length-set}
+use Rattle.mem.specs.Chain.{firsts, nexts, firsts-more, nexts-more}
+use Rattle.mem.specs.Slice.{set-part, splice-one, splice-behind, view-after, view-set-after, getD-view}
 use Rattle.mem.specs.Slice.{view, splice, splice-view, splice-over, splice-comm, length-splice, view-before, view-same}
 
 module _ {A : Type 0} where
@@ -82,3 +85,48 @@ module _ {A : Type 0} where
   unfolding shelved
   shelved-same w a m b n c k p q r =
       sym (rw (← p, splice-view w a m, ← q, splice-view w b n, ← r) (splice-view w c k))
+
+-- ---- tables of n numbers chained by their keys: the first of each key, the records, the next of each number. One more number, n, is written with three
+-- stores: it becomes the first of its key, its record comes behind the others, and the one that was first comes next
+module _ (w : List ℕ) (a m b : ℕ) (R : List ℕ) (c n : ℕ) (key other : ℕ → ℕ) (ws : List ℕ) (second : a + m ≤ b) (third : b + (length R + length ws) ≤ c)
+    (end : c + (n + 1) ≤ length w) (same : (j : ℕ) → j < n → key j ≡ other j) (h : other n < m)
+    (first : view w a m ≡ firsts key m n) (middle : view w b (length R) ≡ R) (last : view w c n ≡ nexts key n) where
+  v : List ℕ
+  v = set w (a + other n) (n + 1)
+
+  u : List ℕ
+  u = splice v (b + length R) ws
+
+  first-put : splice w a (firsts other m (n + 1)) ≡ v
+  unfolding v
+  first-put =
+      ap (splice w a) (firsts-more key other m n same h ∙ ap (λ (l : List ℕ). set l (other n) (n + 1)) (sym first))
+      ∙ sym (set-part w a m (other n) (n + 1) h (omega arith))
+
+  long-v : length v ≡ length w
+  unfolding v
+  long-v = length-set w (a + other n) (n + 1)
+
+  seen : (o k : ℕ) → b ≤ o → view v o k ≡ view w o k
+  unfolding v
+  seen o k l = view-set-after w (a + other n) o k (n + 1) (omega arith)
+
+  middle-put : splice v b (R ++ ws) ≡ u
+  unfolding u
+  middle-put =
+      ap (λ (l : List ℕ). splice v b (l ++ ws)) (sym (seen b (length R) (omega arith) ∙ middle))
+      ∙ sym (splice-behind v b (length R) ws (omega (arith, long-v)))
+
+  last-put : splice u c (nexts other (n + 1)) ≡ set u (c + n) (getD w (a + other n) 0)
+  unfolding u
+  last-put =
+      let e : view u c n ≡ nexts key n = view-after v (b + length R) c n ws (omega arith) ∙ seen c n (omega arith) ∙ last in
+      let f : getD (firsts key m n) (other n) 0 ≡ getD w (a + other n) 0 = rw (← first) (getD-view w a m (other n) 0 h) in
+      ap (splice u c) (nexts-more key other m n same h ∙ ap₂ (λ (l : List ℕ) (x : ℕ). l ++ (x ∷ [])) (sym e) f)
+      ∙ sym (splice-behind u c n (getD w (a + other n) 0 ∷ []) (omega (arith, long-v, length-splice v (b + length R) ws)))
+      ∙ splice-one u (c + n) (getD w (a + other n) 0)
+
+  pub chained-put : set (splice (set w (a + other n) (n + 1)) (b + length R) ws) (c + n) (getD w (a + other n) 0)
+      ≡ shelved w a (firsts other m (n + 1)) b (R ++ ws) c (nexts other (n + 1))
+  unfolding shelved v u
+  chained-put = rw (first-put, middle-put) (sym last-put)

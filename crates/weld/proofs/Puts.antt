@@ -9,20 +9,20 @@ use native.Mathlib.Omega.{arith}
 use native.Mathlib.Nat.{le-refl}
 use borrow.Author.Tests.{eq-eqb, ne-eqb}
 use lib.Dec.{eqb}
-use lib.ListN.{length, getD, set, length-append, length-set, List·getD-append}
+use lib.ListN.{length, getD, set, length-append, List·getD-append}
 use lib.Seq.{getD-at}
-use Rattle.mem.specs.Slice.{view, splice, splice-one, splice-view, splice-inside, splice-behind, set-part, length-splice, getD-view}
-use Rattle.mem.specs.Slice.{view-after, view-set-after, length-view}
+use Rattle.mem.specs.Slice.{view, splice, splice-view, splice-inside, set-part}
+use Rattle.mem.specs.Slice.{view-set-after, length-view}
 use Rattle.mem.specs.Loops.{block-fits}
 use Rattle.mem.specs.Cases.{eq-or-ne}
-use Rattle.mem.specs.Shelves.{shelved}
-use Rattle.mem.specs.Chain.{firsts, nexts, firsts-more, nexts-more}
+use Rattle.mem.specs.Shelves.{chained-put, shelved}
+use Rattle.mem.specs.Chain.{nexts}
 use Rattle.rules.specs.Weld.{noVertex, bucket, highestBelow, numberOr, numberOf, flagged, addVertex}
 use Rattle.rules.specs.declared.Vertex.{Vertex}
 use Rattle.rules.specs.declared.Found.the-variants.{At, Nothing}
 use Rattle.laws.specs.Weld.{found-below}
 use Rattle.records.specs.Layout.{vertexSize, markPlace, vertexWords, verticesAt, marksAt, vertexRecords}
-use Rattle.records.specs.Vertices.{length-vertices, length-marks, records-snoc, records-mark, words-at}
+use Rattle.records.specs.Vertices.{length-vertices, length-vertex-records, length-marks, records-snoc, records-mark, words-at}
 use Rattle.weld.specs.declared.find.Tables.{Tables}
 use Rattle.weld.specs.Tables.{bucketCount, keyOf, tabled, Room, Tabled, Added, grown, WeldedOne}
 use Rattle.weld.specs.Standing.{bucket-below, holds-now, holds-of, even-now, same-room, length-tabled, vertices-now, marks-now, standing-now, tabled-again}
@@ -64,72 +64,21 @@ module _ (w : List ℕ) (t : Tables) (nv : ℕ) (s : Tabled w t nv) where
     unfolding b
     in-range = rw key-new (bucket-below (v .x) (v .z))
 
-    more : length (vs ++ (v ∷ [])) ≡ length vs + 1
-    more = length-append vs (v ∷ [])
-
-    -- the bucket's first
-    first-put : splice w (t .buckets) (firsts (keyOf (vs ++ (v ∷ []))) bucketCount (length (vs ++ (v ∷ [])))) ≡ set w (t .buckets + b) (nv + 1)
-    unfolding vs ms b
-    first-put =
-        ap (λ (n : ℕ). splice w (t .buckets) (firsts (keyOf (vs ++ (v ∷ []))) bucketCount n)) more
-        ∙ ap (splice w (t .buckets)) (firsts-more (keyOf vs) (keyOf (vs ++ (v ∷ []))) bucketCount (length vs) key-old in-range
-        ∙ rw (key-new, ← holds-now s .buckets, many) refl)
-        ∙ sym (set-part w (t .buckets) bucketCount b (nv + 1) (bucket-below (v .x) (v .z)) (omega (arith, r .buckets, r .vertices, r .nexts)))
-
-    module _ (x : List ℕ) (ex : x ≡ set w (t .buckets + b) (nv + 1)) where
-      lx : length x ≡ length w
-      lx = ap length ex ∙ length-set w (t .buckets + b) (nv + 1)
-
-      low : t .buckets + b < t .vertices
-      unfolding b
-      low = omega (arith, bucket-below (v .x) (v .z), r .buckets)
-
-      seen : (o n : ℕ) → t .vertices ≤ o → view x o n ≡ view w o n
-      seen o n h = ap (λ (l : List ℕ). view l o n) ex ∙ view-set-after w (t .buckets + b) o n (nv + 1) (omega (arith, low))
-
-      -- its record
-      record-put : splice x (t .vertices) (vertexRecords (vs ++ (v ∷ [])) (ms ++ (0 ∷ []))) ≡ splice x (t .vertices + nv * vertexSize) (vertexWords v 0)
-      unfolding vs ms
-      record-put =
-          ap (splice x (t .vertices)) (records-snoc vs ms v 0 (even-now w t nv)
-          ∙ ap (λ (l : List ℕ). l ++ vertexWords v 0) (sym (seen (t .vertices) (nv * vertexSize) (omega arith) ∙ (rw many at (holds-now s .vertices)))))
-          ∙ sym (splice-behind x (t .vertices) (nv * vertexSize) (vertexWords v 0) (omega (arith, lx, r .vertices, r .nexts)))
-
-      module _ (y : List ℕ) (ey : y ≡ splice x (t .vertices + nv * vertexSize) (vertexWords v 0)) where
-        ly : length y ≡ length w
-        ly = ap length ey ∙ length-splice x (t .vertices + nv * vertexSize) (vertexWords v 0) ∙ lx
-
-        behind : view y (t .nexts) nv ≡ nexts (keyOf vs) (length vs)
-        unfolding vs ms vertexWords
-        behind =
-            ap (λ (l : List ℕ). view l (t .nexts) nv) ey
-            ∙ view-after x (t .vertices + nv * vertexSize) (t .nexts) nv (vertexWords v 0) (omega (arith, r .vertices))
-            ∙ seen (t .nexts) nv (omega (arith, r .vertices)) ∙ ap (view w (t .nexts)) (sym many) ∙ holds-now s .nexts
-
-        was : getD (firsts (keyOf vs) bucketCount (length vs)) b 0 ≡ getD w (t .buckets + b) 0
-        unfolding vs ms b
-        was = rw (← holds-now s .buckets) (getD-view w (t .buckets) bucketCount b 0 (bucket-below (v .x) (v .z)))
-
-        -- its next
-        next-put : splice y (t .nexts) (nexts (keyOf (vs ++ (v ∷ []))) (length (vs ++ (v ∷ [])))) ≡ set y (t .nexts + nv) (getD w (t .buckets + b) 0)
-        next-put =
-            ap (λ (n : ℕ). splice y (t .nexts) (nexts (keyOf (vs ++ (v ∷ []))) n)) more
-            ∙ ap (splice y (t .nexts)) (nexts-more (keyOf vs) (keyOf (vs ++ (v ∷ []))) bucketCount (length vs) key-old in-range
-            ∙ rw (key-new, was, ← behind) refl)
-            ∙ sym (splice-behind y (t .nexts) nv (getD w (t .buckets + b) 0 ∷ []) (omega (arith, ly, r .nexts)))
-            ∙ splice-one y (t .nexts + nv) (getD w (t .buckets + b) 0)
-
     -- the steps of `put_vertex`: h is the bucket, y the buffer once the record is stored
     pub put-steps : {h n : ℕ} {y : List ℕ} → h ≡ bucket (v .x) (v .z) → n ≡ nv + 1
         → y ≡ splice (set w (t .buckets + h) n) (t .vertices + nv * vertexSize) (vertexWords v 0)
         → set y (t .nexts + nv) (getD w (t .buckets + h) 0)
         ≡ tabled w t (verticesAt w (t .vertices) nv ++ (v ∷ [])) (marksAt w (t .vertices) nv ++ (0 ∷ []))
-    unfolding tabled shelved vs ms b
+    unfolding tabled vs ms b
     put-steps {h} {n} {y} eh en ey =
-        let x = set w (t .buckets + b) (nv + 1) in
-        let e : y ≡ splice x (t .vertices + nv * vertexSize) (vertexWords v 0) =
-        ey ∙ rw (eh, en) refl in
-        rw (first-put, record-put x refl, ← e) (rw eh (sym (next-put x refl y e)))
+        let R = vertexRecords vs ms in
+        let l : length R ≡ nv * vertexSize = length-vertex-records vs ms ∙ ap (λ (k : ℕ). k * vertexSize) many in
+        let more : length (vs ++ (v ∷ [])) ≡ nv + 1 = length-append vs (v ∷ []) ∙ ap (λ (k : ℕ). k + 1) many in
+        let words : vertexRecords (vs ++ (v ∷ [])) (ms ++ (0 ∷ [])) ≡ R ++ vertexWords v 0 = records-snoc vs ms v 0 (even-now w t nv) in
+        let put = chained-put w (t .buckets) bucketCount (t .vertices) R (t .nexts) (length vs) (keyOf vs) (keyOf (vs ++ (v ∷ []))) (vertexWords v 0) (r .buckets)
+        (omega (arith, r .vertices, five v 0)) (omega (arith, r .nexts, many)) key-old in-range (holds-now s .buckets) (rw l (rw many at (holds-now s .vertices))) (holds-now s .nexts) in
+        let made : y ≡ splice (set w (t .buckets + b) (nv + 1)) (t .vertices + nv * vertexSize) (vertexWords v 0) = ey ∙ rw (eh, en) refl in
+        rw eh (ap (λ (x : List ℕ). set x (t .nexts + nv) (getD w (t .buckets + b) 0)) made ∙ rw (more, words) (rw (l, key-new, many) at put))
 
   -- ---- a mark
   module _ (k : ℕ) (h : k < nv) where

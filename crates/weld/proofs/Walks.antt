@@ -6,7 +6,6 @@ use mathlib.Core.List.{List}
 use mathlib.Core.Logic.{_≢_}
 use Prim.Native.Nat.{ℕ, _+_, _-_, _*_, _%_, _^_, _≤_, _<_}
 use native.Mathlib.Omega.{arith}
-use native.Mathlib.Numerals.{add-one}
 use native.Mathlib.Nat.{le-refl, le-of-lt, lt-of-le-of-lt, mul-le-mul-left, mul-lt-mul-of-pos-right, add-zero}
 use lib.Bits.{bitAnd, and-mask}
 use lib.Pow.{pow-pos, pow-add}
@@ -17,8 +16,10 @@ use Rattle.ints.specs.Bools.{and-left, and-right}
 use Rattle.mem.specs.Slice.{view, getD-view}
 use Rattle.mem.specs.Tab.{getD-blocks}
 use Rattle.mem.specs.Loops.{over, run, block-fits, Left, turn, end, next as over-next}
-use Rattle.mem.specs.Chain.{highest, highest-at, highest-most, walk-at, walk-end, firsts-at, nexts-at}
-use Rattle.rules.specs.Lists.{apart, when, orElse, down}
+use Rattle.mem.specs.Chain.{highest, firsts-at, nexts-at}
+use Rattle.laws.specs.Searches
+use Rattle.laws.specs.Searches.{walk-in, walk-found, walk-next, walk-less}
+use Rattle.rules.specs.Lists.{apart}
 use Rattle.rules.specs.Weld.{noVertex, bucket, isSame, highestBelow}
 use Rattle.rules.specs.declared.Vertex.{Vertex}
 use Rattle.rules.specs.declared.Found.the-variants.{At, Nothing}
@@ -79,69 +80,22 @@ module _ (height : ℕ) (v u : Vertex) where
     pub agreed-all : 3 ≤ c → isSame height v u ≡ true
     agreed-all h = end (a .left) h
 
--- ---- the walk: what is found among the vertices below n
+-- ---- the walk along v's bucket
 
-module _ (height : ℕ) (vs : List Vertex) (v : Vertex) where
-  below-more : (k : ℕ) → highestBelow height vs v (k + 1) ≡ orElse (when (isSame height (getD vs k noVertex) v) k) (highestBelow height vs v k)
-  unfolding highestBelow down
-  below-more k = rw (add-one k) refl
+-- number k is the same as v
+abbrev pub sameAs : ℕ → List Vertex → Vertex → ℕ → Bool
+sameAs height vs v k = isSame height (getD vs k noVertex) v
 
-  miss : (k : ℕ) → isSame height (getD vs k noVertex) v ≡ false → highestBelow height vs v (k + 1) ≡ highestBelow height vs v k
-  unfolding orElse when
-  miss k e = below-more k ∙ rw e
+abbrev pub Walk : ℕ → List Vertex → Vertex → ℕ → ℕ → Type 0
+Walk height vs v n link = Searches.Walk (sameAs height vs v) (keyOf vs) (bucket (v .x) (v .z)) n link
 
-  hit : (k : ℕ) → isSame height (getD vs k noVertex) v ≡ true → highestBelow height vs v (k + 1) ≡ At k
-  unfolding orElse when
-  hit k e = below-more k ∙ rw e
+keyed : (height : ℕ) (vs : List Vertex) (v : Vertex) (k : ℕ) → sameAs height vs v k ≡ true → keyOf vs k ≡ bucket (v .x) (v .z)
+unfolding keyOf
+keyed height vs v k e = same-key height (getD vs k noVertex) v e
 
-  blind : (j : ℕ) → keyOf vs j ≢ bucket (v .x) (v .z) → highestBelow height vs v (j + 1) ≡ highestBelow height vs v j
-  unfolding keyOf
-  blind j ne = go (isSame height (getD vs j noVertex) v) refl
-    where
-      go : (t : Bool) → isSame height (getD vs j noVertex) v ≡ t → highestBelow height vs v (j + 1) ≡ highestBelow height vs v j
-      go true e = absurd (ne (same-key height (getD vs j noVertex) v e))
-      go false e = miss j e
-
--- `link` is the word of the next vertex to look at: the highest one of v's bucket below m
-pub record Walk (height : ℕ) (vs : List Vertex) (v : Vertex) (n link : ℕ) : Type 0 where
-  pub m : ℕ
-  pub within : m ≤ n
-  pub at : link ≡ highest (keyOf vs) (bucket (v .x) (v .z)) m
-  pub same : highestBelow height vs v n ≡ highestBelow height vs v m
-
-module _ (height : ℕ) (vs : List Vertex) (v : Vertex) (n : ℕ) {link : ℕ} (r : Walk height vs v n link) where
-  pub walk-none : link ≤ 0 → Nothing ≡ highestBelow height vs v n
-  unfolding highestBelow down
-  walk-none h =
-      let z : highest (keyOf vs) (bucket (v .x) (v .z)) (r .m) ≡ 0 = omega (arith, r .at) in
-      sym (r .same ∙ walk-end (keyOf vs) (bucket (v .x) (v .z)) (highestBelow height vs v) (blind height vs v) (r .m) z)
-
-  module _ (k : ℕ) (e : k + 1 ≡ link) where
-    here : highest (keyOf vs) (bucket (v .x) (v .z)) (r .m) ≡ k + 1
-    here = sym (e ∙ r .at)
-
-    pub walk-in : k < n
-    walk-in = omega (arith, highest-at (keyOf vs) (bucket (v .x) (v .z)) (r .m) k here .0, r .within)
-
-    key-here : keyOf vs k ≡ bucket (v .x) (v .z)
-    key-here = highest-at (keyOf vs) (bucket (v .x) (v .z)) (r .m) k here .1
-
-    past : highestBelow height vs v n ≡ highestBelow height vs v (k + 1)
-    past = r .same ∙ walk-at (keyOf vs) (bucket (v .x) (v .z)) (highestBelow height vs v) (blind height vs v) (r .m) k here
-
-    pub walk-found : isSame height (getD vs k noVertex) v ≡ true → At k ≡ highestBelow height vs v n
-    walk-found t = sym (past ∙ hit height vs v k t)
-
-    pub walk-next : {next : ℕ} → next ≡ highest (keyOf vs) (keyOf vs k) k → isSame height (getD vs k noVertex) v ≡ false → Walk height vs v n next
-    walk-next q t = record {
-      m = k;
-      within = omega (arith, walk-in);
-      at = q ∙ ap (λ (b : ℕ). highest (keyOf vs) b k) key-here;
-      same = past ∙ miss height vs v k t;
-    }
-
-    pub walk-less : {next : ℕ} → next ≡ highest (keyOf vs) (keyOf vs k) k → next < link
-    walk-less {next} q = omega (arith, q, highest-most (keyOf vs) (keyOf vs k) k)
+pub walk-none : (height : ℕ) (vs : List Vertex) (v : Vertex) (n : ℕ) {link : ℕ} → Walk height vs v n link → link ≤ 0 → Nothing ≡ highestBelow height vs v n
+unfolding highestBelow
+walk-none height vs v n r h = Searches.walk-none (sameAs height vs v) (keyOf vs) (bucket (v .x) (v .z)) (keyed height vs v) n r h
 
 -- ---- the words that the code reads
 
@@ -185,7 +139,7 @@ module _ (w : List ℕ) (t : Tables) (nv : ℕ) (s : Tabled w t nv) where
     named = omega arith
 
     step-in : k < nv
-    step-in = walk-in height (verticesAt w (t .vertices) nv) v nv r k named
+    step-in = walk-in (sameAs height (verticesAt w (t .vertices) nv) v) _ _ (keyed height (verticesAt w (t .vertices) nv) v) nv r k named
 
     pub step-fits : t .vertices + (link - 1) * vertexSize + vertexSize ≤ length w
     unfolding k
@@ -201,17 +155,21 @@ module _ (w : List ℕ) (t : Tables) (nv : ℕ) (s : Tabled w t nv) where
 
     pub step-less : {l : ℕ} → l ≡ getD w (t .nexts + (link - 1)) 0 → l < link
     unfolding k
-    step-less e = walk-less height (verticesAt w (t .vertices) nv) v nv r k named (walk-word step-in e)
+    step-less e = walk-less (sameAs height (verticesAt w (t .vertices) nv) v) _ _ (keyed height (verticesAt w (t .vertices) nv) v) nv r k named (walk-word step-in e)
 
     module _ {c : ℕ} (a : Agreed height (vertexIn (view w (t .vertices + (link - 1) * vertexSize) vertexSize)) v c) where
       pub step-on : {l : ℕ} → l ≡ getD w (t .nexts + (link - 1)) 0 → c < 3
           → agree height (vertexIn (view w (t .vertices + (link - 1) * vertexSize) vertexSize)) v c ≡ false → Walk height (verticesAt w (t .vertices) nv) v nv l
       unfolding k
-      step-on e q f = walk-next height (verticesAt w (t .vertices) nv) v nv r k named (walk-word step-in e) (rw seen at (agreed-not height _ v a q f))
+      step-on e q f =
+          walk-next (sameAs height (verticesAt w (t .vertices) nv) v) _ _ (keyed height (verticesAt w (t .vertices) nv) v) nv r k named (walk-word step-in e)
+          (rw seen at (agreed-not height _ v a q f))
 
       pub step-found : 3 ≤ c → At (link - 1) ≡ highestBelow height (verticesAt w (t .vertices) nv) v nv
-      unfolding k
-      step-found q = walk-found height (verticesAt w (t .vertices) nv) v nv r k named (rw seen at (agreed-all height _ v a q))
+      unfolding k highestBelow
+      step-found q =
+          walk-found (sameAs height (verticesAt w (t .vertices) nv) v) _ _ (keyed height (verticesAt w (t .vertices) nv) v) nv r k named
+          (rw seen at (agreed-all height _ v a q))
 
 -- ---- the bucket as the code computes it
 
