@@ -3,14 +3,13 @@
 use mathlib.Core.Path.{_≡_, refl, sym, ap, _∙_}
 use mathlib.Core.Bool.{true, false}
 use mathlib.Core.List.{List, [], _∷_, _++_, append-nil}
-use Prim.Native.Nat.{ℕ, zero, suc, _+_, _-_, _*_, _≤_, _<_}
+use Prim.Native.Nat.{ℕ, _+_, _-_, _*_, _≤_, _<_}
 use native.Mathlib.Omega.{arith}
-use native.Mathlib.Nat.{zero-mul, suc-mul}
 use lib.ListN.{length, take, drop, replicate, length-append, length-replicate, length-drop, drop-of-length-le}
 use lib.Seq.{take-all, length-take-le}
-use Rattle.mem.specs.Slice.{view, splice, length-splice, take-splice, view-before, length-view, view-append, splice-eq}
+use Rattle.mem.specs.Slice.{view, splice, length-splice, take-splice, view-before, length-view, splice-eq}
 use Rattle.mem.specs.Tab.{tab, blocks, length-blocks, blocks-before, blocks-push}
-use Rattle.mem.specs.Packed.{packed, packed-append}
+use Rattle.mem.specs.Packed.{repacked}
 use Rattle.rules.specs.declared.Ear.{Ear}
 use Rattle.rules.specs.Ears.{indices, markAll, findEar, triangleAt, cutEar, done, stuck, triangulate}
 use Rattle.rules.specs.Fuel.{cutting}
@@ -157,13 +156,6 @@ unfolding answerOf earsAt
 read-answer o w (Done k) = ap Done (length-blocks (λ t. t) w o 3 k)
 read-answer o w (Stuck k) = refl
 
-packed-blocks : (w : List ℕ) (o k n : ℕ) → packed (λ t. t) (blocks (λ t. t) w o k n) ≡ view w o (n * k)
-unfolding blocks tab packed
-packed-blocks w o k zero = rw (zero-mul k) refl
-packed-blocks w o k (suc n) =
-    packed-append (λ t. t) (blocks (λ t. t) w o k n) (view w (o + n * k) k ∷ [])
-    ∙ rw (append-nil (view w (o + n * k) k), packed-blocks w o k n, suc-mul n k) (sym (view-append w o (n * k) k))
-
 -- ---- the whole: n points are laid into v; in w their numbers stand behind them, in x these are marked, in y the cutting is done, and u is the end
 module _ (n : ℕ) (v : List ℕ) {w : List ℕ} (laid : Laid n v) (e : w ≡ splice v (n * 2) (indices n)) where
   room : n * 2 + n ≤ length v
@@ -224,10 +216,10 @@ module _ (n : ℕ) (v : List ℕ) {w : List ℕ} (laid : Laid n v) (e : w ≡ sp
           let count = triangles-counted (pointsOf n v) ts (omega arith) t in
           let some : k ≡ n - 2 = omega (arith, length-blocks (λ t. t) y (n * 2 + n) 3 k) in
           let all : view y (n * 2 + n) (k * 3) ≡ drop (n * 2 + n) y = take-all (k * 3) (drop (n * 2 + n) y) (rw length-drop (omega arith)) in
-          rw (t, packed-blocks y (n * 2 + n) 3 k, all) (g ∙ splice-eq y (n * 2) (replicate n 0) (omega arith) ∙ rw (z, start) refl)
+          rw (t, repacked (λ t. t) (λ t. t) 3 (λ ws h. refl) y (n * 2 + n) k (omega arith), all) (g ∙ splice-eq y (n * 2) (replicate n 0) (omega arith) ∙ rw (z, start) refl)
 
       -- all behind the points is wiped
-      pub stuck-words : {u : List ℕ} {k : ℕ} → r ≡ Stuck k → length y ≡ length v → u ≡ splice y (n * 2) (replicate (n + (n - 2) * 3) 0)
+      pub stuck-words : {u : List ℕ} {k : ℕ} → r ≡ Stuck k → length y ≡ length v → u ≡ splice y (n * 2) (replicate (length y - n * 2) 0)
           → u ≡ cutIn n v (triangulate (pointsOf n v))
       unfolding cutIn earsAt
       stuck-words {u} {k} q l g =
@@ -236,5 +228,6 @@ module _ (n : ℕ) (v : List ℕ) {w : List ℕ} (laid : Laid n v) (e : w ≡ sp
           let z = length-replicate {A = ℕ} (n + (n - 2) * 3) 0 in
           let m = laid .some in
           let size = laid .size in
-          rw t (g ∙ splice-eq y (n * 2) zeros (omega arith)
-          ∙ rw (drop-of-length-le y {i = n * 2 + length zeros} (omega arith), append-nil zeros, start) refl)
+          let rest : length y - n * 2 ≡ n + (n - 2) * 3 = omega arith in
+          rw t (g ∙ rw rest (splice-eq y (n * 2) zeros (omega arith)
+          ∙ rw (drop-of-length-le y {i = n * 2 + length zeros} (omega arith), append-nil zeros, start) refl))

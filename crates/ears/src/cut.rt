@@ -2,7 +2,7 @@
 ghost use mathlib.Core.Path.{_≡_};
 ghost use mathlib.Core.List.{[], _∷_, _++_};
 ghost use Prim.Native.Nat.{_+_, _-_, _*_, _≤_, _<_};
-ghost use lib.ListN.{length, take, replicate};
+ghost use lib.ListN.{length, take};
 ghost use Rattle.mem.specs.Slice.{view, splice};
 ghost use Rattle.rules.specs.Lists.{without};
 ghost use Rattle.rules.specs.Diagonal.{isDiagonal};
@@ -13,13 +13,14 @@ ghost use Rattle.plane.specs.Points.{pointsIn};
 ghost use Rattle.ears.specs.Part.{pointsOf, Laid, answerOf, cutIn, Ready};
 ghost use Rattle.ears.specs.Turn.{cutOnce, AllCut};
 use crate::diagonal::is_diagonal;
+use crate::index::index_of;
+use crate::index::with_mark;
 use crate::search::find_ear;
-use crate::words::index_of;
-use crate::words::with_mark;
 use plane::ring::next;
 use plane::ring::prev;
 use rules::Ear;
 use rules::Kind;
+use words::fill::fill;
 
 // The triangles are there, or no ear was left to cut; with how many triangles were cut.
 pub enum Triangulation {
@@ -36,18 +37,6 @@ fn count_up(ix: &mut [u32])
     let mut k = 0;
     while k < n {
         ix[k] = k as u32;
-        k += 1;
-    }
-}
-
-// Zeros.
-fn wipe(w: &mut [u32])
-    ensures { λ _. ⌜ now (w .exit) ≡ replicate (length (now (w .entry))) 0 ⌝ }
-{
-    let n = w.len();
-    let mut k = 0;
-    while k < n {
-        w[k] = 0;
         k += 1;
     }
 }
@@ -194,12 +183,13 @@ pub fn triangulate(part: &mut [u32], n: usize) -> Triangulation
     count_up(&mut part[a..b]);
     mark_all(&mut *part, a, n);
     let t = cut_all(&mut *part, a, n);
+    let e = part.len();
     match t {
         Triangulation::Done(_) => {
-            wipe(&mut part[a..b]);
+            fill(part, a, n, 0);
         }
         Triangulation::Stuck(_) => {
-            wipe(&mut part[a..]);
+            fill(part, a, e - a, 0);
         }
     }
     t

@@ -8,7 +8,7 @@ ghost use Rattle.rules.specs.Diagonal.{leftBy, inCone, atEnds, sharesEnd, hits,
 ghost use Rattle.rules.specs.Ears.{pointAt};
 ghost use Rattle.plane.specs.Points.{pointsIn};
 ghost use Rattle.ears.specs.Ring.{Ring, Ends};
-use crate::words::index_of;
+use crate::index::index_of;
 use plane::measure::point_at;
 use plane::ring::next;
 use plane::ring::prev;

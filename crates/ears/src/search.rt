@@ -8,7 +8,7 @@ ghost use Rattle.plane.specs.Points.{pointsIn};
 ghost use Rattle.ears.specs.Ring.{Ring};
 use crate::diagonal::corner;
 use crate::diagonal::is_diagonal;
-use crate::words::is_marked;
+use crate::index::is_marked;
 use plane::measure::length_squared;
 use plane::ring::next;
 use rules::Ear;

@@ -22,7 +22,7 @@ use records::polygon::POLYGON_SIZE;
 use records::polygon::Poly;
 use records::polygon::store_poly;
 use records::vertex::place_at;
-use records::words::wipe;
+use words::fill::fill;
 
 // The places of the m points at q go to po, two words each.
 pub fn lay_points(work: &mut [u32], vo: usize, nv: usize, q: usize, m: usize, po: usize)
@@ -154,15 +154,14 @@ pub fn fill_hole(
     ensures answer { λ r. ⌜ r ≡ filledOf (verticesAt (now (work .entry)) vo nv) nvp (pointsAt (now (work .entry)) q m) (Rules.triangulate (placesOf (verticesAt (now (work .entry)) vo nv) (pointsAt (now (work .entry)) q m))) ⌝ }
     ensures words { λ _. ⌜ now (work .exit) ≡ filledIn (now (work .entry)) (verticesAt (now (work .entry)) vo nv) nvp at po (pointsAt (now (work .entry)) q m) (Rules.triangulate (placesOf (verticesAt (now (work .entry)) vo nv) (pointsAt (now (work .entry)) q m))) ⌝ }
 {
-    let e = po + (m * 6 - 6);
     match cut_hole(work, vo, nv, q, m, po) {
         Triangulation::Done(k) => {
             let n = mesh_hole(work, vo, nv, at, q, m, po + m * 3, k, nvp);
-            wipe(&mut work[po..e]);
+            fill(work, po, m * 6 - 6, 0);
             return Filled::Polygons(n);
         }
         Triangulation::Stuck(_) => {
-            wipe(&mut work[po..e]);
+            fill(work, po, m * 6 - 6, 0);
             return Filled::NoEars;
         }
     }

@@ -8,8 +8,8 @@ ghost use Rattle.rules.specs.Lists.{without};
 ghost use Rattle.records.specs.Layout.{vertexSize, verticesAt, marksAt, vertexRecords};
 ghost use Rattle.holes.specs.Clear.{TidyVertices};
 use records::vertex::VERTEX_SIZE;
-use records::words::move_down;
-use records::words::wipe;
+use words::fill::fill;
+use words::moves::move_down;
 
 // The first vertex of the part goes, those behind it move down by one, and zeros come in at the end.
 fn drop_first(part: &mut [u32])
@@ -18,7 +18,7 @@ fn drop_first(part: &mut [u32])
 {
     let n = part.len() - VERTEX_SIZE;
     move_down(part, VERTEX_SIZE, n);
-    wipe(&mut part[n..]);
+    fill(part, n, VERTEX_SIZE, 0);
 }
 
 // Of the nv vertices at vo, vertex i goes.

@@ -1,7 +1,7 @@
 // The links of the polygons' sides: both polygons of a record that is joined to another polygon store each other's number.
 ghost use mathlib.Core.Path.{_≡_};
-ghost use Prim.Native.Nat.{_+_, _≤_, _<_};
-ghost use lib.ListN.{length, getD, set, replicate};
+ghost use Prim.Native.Nat.{_<_};
+ghost use lib.ListN.{length, getD, set};
 ghost use Rattle.mem.specs.Slice.{splice};
 ghost use Rattle.rules.specs.Links.{noEdge, edgesOf, linksOf};
 ghost use Rattle.records.specs.Layout.{polygonsAt, edgesAt};
@@ -13,18 +13,7 @@ use crate::sides::record_sides;
 use records::edge::load_edge;
 use records::polygon::LINK_SIZE;
 use records::polygon::NONE;
-
-// The n words from `at` on become x.
-fn fill(work: &mut [u32], at: usize, n: usize, x: u32)
-    requires { ⌜ at + n ≤ length (now work) ⌝ }
-    ensures { λ _. ⌜ now (work .exit) ≡ splice (now (work .entry)) at (replicate n x) ⌝ }
-{
-    let mut i = 0;
-    while i < n {
-        work[at + i] = x;
-        i += 1;
-    }
-}
+use words::fill::fill;
 
 // The sides of the np polygons at o are recorded and joined, whatever the tables held. The result says how many records
 // there are.

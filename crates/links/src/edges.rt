@@ -9,9 +9,9 @@ ghost use Rattle.links.specs.Tables.{edged, Room, Edged};
 use records::edge::EDGE_SIZE;
 use records::edge::load_edge;
 use records::edge::store_edge;
-use records::words::link_at;
 use rules::Edge;
 use rules::Found;
+use words::places::link_at;
 
 // Where the words of the records stand: for each vertex the newest record that starts there, the records, and for each
 // record the next older one of its vertex.

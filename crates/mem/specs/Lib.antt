@@ -9,3 +9,5 @@ pub mod Tab
 pub mod Packed
 pub mod Chain
 pub mod Shelves
+-- words with zeros behind them
+pub mod Zeros

@@ -9,7 +9,7 @@ use native.Mathlib.Nat.{le-refl, zero-add, suc-mul, zero-mul}
 use native.Mathlib.Omega.{arith}
 use lib.ListN.{length, take, drop, getD, set, length-append, List·getD-eq-default, replicate}
 use lib.Seq.{ext-getD, getD-set-same, getD-set-other, set-out, getD-drop, drop-drop, take-at, drop-at, take-all, take-nil, drop-nil, take-append-add, length-take-le}
-use Rattle.mem.specs.Slice.{view, splice, splice-nil, splice-append, splice-inside, length-splice, view-same, view-view, take-snoc}
+use Rattle.mem.specs.Slice.{view, splice, splice-nil, splice-append, splice-inside, length-splice, length-view, view-append, view-same, view-view, take-snoc}
 use Rattle.mem.specs.Cases.{lt-or-le, eq-or-ne}
 use Rattle.mem.specs.Tab.{tab, length-tab, getD-tab, blocks, length-blocks, getD-blocks}
 use Rattle.mem.specs.Loops.{block-fits}
@@ -121,6 +121,18 @@ module _ {B : Type 0} (enc : B → List ℕ) where
   unfolding packed
   packed-append [] ys = refl
   packed-append (x ∷ xs) ys = rw (packed-append xs ys) (sym (append-assoc (enc x) (packed xs) (packed ys)))
+
+  -- what is loaded and stored again is what was there
+  pub repacked : (dec : List ℕ → B) (k : ℕ) → ((ws : List ℕ) → length ws ≡ k → enc (dec ws) ≡ ws) → (w : List ℕ) (o n : ℕ) → o + n * k ≤ length w
+      → packed (blocks dec w o k n) ≡ view w o (n * k)
+  unfolding packed blocks tab
+  repacked dec k forth w o zero h = rw (zero-mul k) refl
+  repacked dec k forth w o (suc n) h =
+      let e : suc n * k ≡ n * k + k = suc-mul n k in
+      let ws = view w (o + n * k) k in
+      packed-append (blocks dec w o k n) (dec ws ∷ [])
+      ∙ ap (λ (l : List ℕ). l ++ (enc (dec ws) ++ [])) (repacked dec k forth w o n (omega arith))
+      ∙ rw (forth ws (length-view w (o + n * k) k (omega arith)), append-nil ws, e) (sym (view-append w o (n * k) k))
 
   -- each thing that fits has k words
   module _ (k : ℕ) (Fit : B → Type 0) (d : B) (sized : (b : B) → Fit b → length (enc b) ≡ k) where

@@ -10,7 +10,7 @@ use native.Mathlib.Omega.{arith}
 use lib.ListN.{length, getD, set, length-set}
 use Rattle.mem.specs.Chain.{firsts, nexts, firsts-more, nexts-more}
 use Rattle.mem.specs.Slice.{set-part, splice-one, splice-behind, view-after, view-set-after, getD-view}
-use Rattle.mem.specs.Slice.{view, splice, splice-view, splice-over, splice-comm, length-splice, view-before, view-same}
+use Rattle.mem.specs.Slice.{view, splice, splice-view, splice-over, splice-comm, splice-inside, length-splice, view-before, view-same}
 
 module _ {A : Type 0} where
   unfoldable pub shelved : List A → ℕ → List A → ℕ → List A → ℕ → List A → List A
@@ -25,6 +25,9 @@ module _ {A : Type 0} where
   pub length-shelved : (w : List A) (a : ℕ) (xs : List A) (b : ℕ) (ys : List A) (c : ℕ) (zs : List A) → length (shelved w a xs b ys c zs) ≡ length w
   unfolding shelved
   length-shelved w a xs b ys c zs = simp length-splice
+
+  splice-swap : (w : List A) (p o : ℕ) (xs us : List A) → o + length us ≤ p → splice (splice w p xs) o us ≡ splice (splice w o us) p xs
+  splice-swap w p o xs us h = sym (splice-comm w o p us xs h)
 
   module _ (w : List A) (a m : ℕ) (xs : List A) (b n : ℕ) (ys : List A) (c k : ℕ) (zs : List A) (r : Shelves w a m b n c k)
       (lx : length xs ≡ m) (ly : length ys ≡ n) (lz : length zs ≡ k) where
@@ -79,6 +82,24 @@ module _ {A : Type 0} where
         (sym (splice-comm (splice x b vs) b c ys ws (omega (arith, r .third)))
         ∙ ap (λ (l : List A). splice l c ws) (splice-over x b vs ys (omega arith)))
         ∙ splice-over y c ws zs (omega arith)
+
+    -- other words in one of them
+    pub shelved-first : (i : ℕ) (us : List A) → i + length us ≤ m → splice (shelved w a xs b ys c zs) (a + i) us ≡ shelved w a (splice xs i us) b ys c zs
+    unfolding shelved x y
+    shelved-first i us h =
+        splice-swap y c (a + i) zs us (omega (arith, r .second, r .third))
+        ∙ ap (λ (l : List A). splice l c zs) (splice-swap x b (a + i) ys us (omega (arith, r .second))
+        ∙ ap (λ (l : List A). splice l b ys) (splice-inside w a i xs us (omega arith)))
+
+    pub shelved-second : (i : ℕ) (us : List A) → i + length us ≤ n → splice (shelved w a xs b ys c zs) (b + i) us ≡ shelved w a xs b (splice ys i us) c zs
+    unfolding shelved x y
+    shelved-second i us h =
+        splice-swap y c (b + i) zs us (omega (arith, r .third))
+        ∙ ap (λ (l : List A). splice l c zs) (splice-inside x b i ys us (omega arith))
+
+    pub shelved-third : (i : ℕ) (us : List A) → i + length us ≤ k → splice (shelved w a xs b ys c zs) (c + i) us ≡ shelved w a xs b ys c (splice zs i us)
+    unfolding shelved x y
+    shelved-third i us h = splice-inside y c i zs us (omega arith)
 
   -- what stands there is written again
   pub shelved-same : (w : List A) (a m b n c k : ℕ) {xs ys zs : List A} → view w a m ≡ xs → view w b n ≡ ys → view w c k ≡ zs → w ≡ shelved w a xs b ys c zs

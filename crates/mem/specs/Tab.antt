@@ -10,7 +10,7 @@ use native.Mathlib.Omega.{arith}
 use borrow.Author.Count.{below-more}
 use lib.ListN.{length, take, drop, getD, set, length-append, length-set, length-drop, List·getD-append, replicate}
 use lib.Seq.{getD-at, ext-getD, getD-set-same, getD-set-other, take-suc, getD-drop}
-use Rattle.mem.specs.Slice.{view, splice, splice-nil, splice-whole, getD-splice-above, write-step, replicate-snoc, view-before, view-after, view-same}
+use Rattle.mem.specs.Slice.{view, splice, splice-nil, splice-whole, getD-splice-above, write-step, replicate-snoc, view-before, view-after, view-view, view-same}
 use Rattle.mem.specs.Cases.{lt-or-le, eq-or-ne}
 use Rattle.mem.specs.Loops.{block-fits}
 
@@ -27,6 +27,11 @@ module _ {A : Type 0} where
   unfolding tab
   length-tab f zero = refl
   length-tab f (suc n) = simp (length-append, length-tab f n, add-one)
+
+  tab-cons : (f : ℕ → A) (n : ℕ) → tab f (suc n) ≡ f 0 ∷ tab (λ i. f (i + 1)) n
+  unfolding tab
+  tab-cons f zero = refl
+  tab-cons f (suc n) = ap (λ (l : List A). l ++ (f (suc n) ∷ [])) (tab-cons f n) ∙ rw (add-one n)
 
   pub tab-cong : (f g : ℕ → A) (n : ℕ) → ((i : ℕ) → i < n → f i ≡ g i) → tab f n ≡ tab g n
   unfolding tab
@@ -63,7 +68,24 @@ module _ {B : Type 0} (dec : List ℕ → B) where
   blocks-after w p o k n xs h =
       tab-cong _ _ n (λ i a. ap dec (view-before w p (o + i * k) k xs (omega (arith, block-fits i n k (n * k) a (le-refl (n * k))))))
 
-  -- one more block
+  -- the blocks of a part
+  pub blocks-view : (w : List ℕ) (q m k n : ℕ) → n * k ≤ m → blocks (view w q m) 0 k n ≡ blocks w q k n
+  unfolding blocks
+  blocks-view w q m k n h =
+      tab-cong (λ i. dec (view (view w q m) (0 + i * k) k)) (λ i. dec (view w (q + i * k) k)) n
+      (λ i a. let e : q + (0 + i * k) ≡ q + i * k = omega arith in
+      ap dec (view-view w q m (0 + i * k) k (omega (arith, block-fits i n k (n * k) a (le-refl (n * k)))) ∙ rw e))
+
+  -- one more block, in front and behind
+  pub blocks-cons : (w : List ℕ) (o k n : ℕ) → blocks w o k (n + 1) ≡ dec (view w o k) ∷ blocks w (o + k) k n
+  unfolding blocks
+  blocks-cons w o k n =
+      let z : o + 0 * k ≡ o = omega arith in
+      rw (add-one n) (tab-cons (λ i. dec (view w (o + i * k) k)) n
+      ∙ rw z (ap (λ (l : List B). dec (view w o k) ∷ l)
+      (tab-cong (λ i. dec (view w (o + (i + 1) * k) k)) (λ i. dec (view w (o + k + i * k) k)) n
+      (λ i a. let e : o + (i + 1) * k ≡ o + k + i * k = omega arith in rw e))))
+
   pub blocks-snoc : (w : List ℕ) (o k n : ℕ) → blocks w o k (n + 1) ≡ blocks w o k n ++ (dec (view w (o + n * k) k) ∷ [])
   unfolding blocks
   blocks-snoc w o k n = tab-snoc _ n

@@ -7,10 +7,11 @@ use Prim.Native.Nat.{ℕ, zero, suc, _+_, _*_, _≤_, _<_}
 use native.Mathlib.Nat.{le-refl, add-zero}
 use native.Mathlib.Omega.{arith}
 use lib.ListN.{length, take, getD, set}
+use lib.Seq.{take-all}
 use Rattle.mem.specs.Slice.{view, splice, splice-append}
-use Rattle.mem.specs.Tab.{tab, tab-cong, tab-view, take-tab, blocks, length-blocks, getD-blocks}
+use Rattle.mem.specs.Tab.{tab, tab-cong, tab-take, tab-view, take-tab, blocks, length-blocks, getD-blocks, blocks-view}
 use Rattle.mem.specs.Loops.{block-fits}
-use Rattle.mem.specs.Packed.{Every, every-of, packed, packed-append, packed-put, length-packed, unpacked}
+use Rattle.mem.specs.Packed.{Every, every-of, packed, packed-append, packed-put, length-packed, unpacked, repacked}
 use Rattle.rules.specs.Removal.{noSide, noPoint}
 use Rattle.rules.specs.Links.{noEdge}
 use Rattle.records.specs.Layout.{sideSize, sideIn, sideWords, sidesAt, sideRecords}
@@ -25,18 +26,23 @@ pub record Fixed {B : Type 0} (manyAt : List ℕ → ℕ → ℕ → List B) (wo
   pub is-packed : (bs : List B) → words bs ≡ packed enc bs
   pub sized : (b : B) → length (enc b) ≡ size
   pub back : (b : B) → dec (enc b) ≡ b
+  pub forth : (ws : List ℕ) → length ws ≡ size → enc (dec ws) ≡ ws
+
+-- words read one by one are the words
+read-all : (ws : List ℕ) (n : ℕ) → length ws ≡ n → tab (λ k. getD ws k 0) n ≡ ws
+read-all ws n e = tab-take ws n 0 (omega arith) ∙ take-all n ws (omega arith)
 
 pub side-fixed : Fixed sidesAt sideRecords sideIn sideWords sideSize noSide
-unfolding sidesAt sideRecords sideIn sideWords
-side-fixed = record { is-blocks = λ w o n. refl; is-packed = λ ss. refl; sized = λ s. refl; back = λ s. refl }
+unfolding sidesAt sideRecords sideIn sideWords tab
+side-fixed = record { is-blocks = λ w o n. refl; is-packed = λ ss. refl; sized = λ s. refl; back = λ s. refl; forth = λ ws e. read-all ws sideSize e }
 
 pub point-fixed : Fixed pointsAt pointRecords pointIn pointWords pointSize noPoint
-unfolding pointsAt pointRecords pointIn pointWords
-point-fixed = record { is-blocks = λ w o n. refl; is-packed = λ cs. refl; sized = λ c. refl; back = λ c. refl }
+unfolding pointsAt pointRecords pointIn pointWords tab
+point-fixed = record { is-blocks = λ w o n. refl; is-packed = λ cs. refl; sized = λ c. refl; back = λ c. refl; forth = λ ws e. read-all ws pointSize e }
 
 pub edge-fixed : Fixed edgesAt edgeRecords edgeIn edgeWords edgeSize noEdge
-unfolding edgesAt edgeRecords edgeIn edgeWords
-edge-fixed = record { is-blocks = λ w o n. refl; is-packed = λ es. refl; sized = λ e. refl; back = λ e. refl }
+unfolding edgesAt edgeRecords edgeIn edgeWords tab
+edge-fixed = record { is-blocks = λ w o n. refl; is-packed = λ es. refl; sized = λ e. refl; back = λ e. refl; forth = λ ws e. read-all ws edgeSize e }
 
 -- ---- words read one by one, as the code does it: at `at`, at + 1, at + 2, ..
 
@@ -86,6 +92,14 @@ module _ {B : Type 0} {manyAt : List ℕ → ℕ → ℕ → List B} {words : Li
   pub fixed-take : (w : List ℕ) (o n m : ℕ) → m ≤ n → take m (manyAt w o n) ≡ manyAt w o m
   unfolding blocks
   fixed-take w o n m h = rw (f .is-blocks w o n, f .is-blocks w o m) (take-tab _ n m h)
+
+  -- those of a part
+  pub fixed-view : (w : List ℕ) (q m n : ℕ) → n * size ≤ m → manyAt (view w q m) 0 n ≡ manyAt w q n
+  fixed-view w q m n h = rw (f .is-blocks (view w q m) 0 n, f .is-blocks w q n) (blocks-view dec w q m size n h)
+
+  -- the words of a list are those that it was read from
+  pub fixed-words : (w : List ℕ) (o n : ℕ) → o + n * size ≤ length w → words (manyAt w o n) ≡ view w o (n * size)
+  fixed-words w o n h = rw (f .is-packed (manyAt w o n), f .is-blocks w o n) (repacked enc dec size (f .forth) w o n h)
 
   -- one of n, read word by word
   pub fixed-loaded : (w : List ℕ) (o n i : ℕ) → o + n * size ≤ length w → i < n → dec (tab (wordAt w (o + i * size)) size) ≡ getD (manyAt w o n) i d

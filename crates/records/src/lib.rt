@@ -4,4 +4,3 @@ pub mod polygon; // a polygon, and a list of them
 pub mod side; // a side of a removal
 pub mod point; // a point of the chain
 pub mod edge; // the record of a side for the links
-pub mod words; // words moved down and wiped, whatever they stand for

@@ -1,13 +1,12 @@
 -- Passes over the sides, one after the other, and what becomes of the part once the walk is over. Assumes nothing.
 use mathlib.Core.Path.{_≡_, refl, sym, ap, _∙_}
 use mathlib.Core.Logic.{⊎-elim}
-use mathlib.Core.List.{List, [], _++_}
+use mathlib.Core.List.{List, _++_}
 use Prim.Native.Nat.{ℕ, _+_, _-_, _*_, _≤_, _<_}
 use native.Mathlib.Omega.{arith}
-use lib.ListN.{length, take, drop, getD, replicate, length-append, length-replicate}
+use lib.ListN.{length, take, drop, replicate, length-append, length-replicate}
 use Rattle.mem.specs.Cases.{lt-or-le}
-use Rattle.mem.specs.Slice.{view, splice, splice-append, splice-whole, length-splice, length-view, getD-splice-above, lent}
-use Rattle.mem.specs.Tab.{tab, length-tab, Filled}
+use Rattle.mem.specs.Slice.{view, splice, splice-append, splice-whole, length-splice, length-view, lent}
 use Rattle.rules.specs.Removal.{Walk, walkOne, walkOnce, walkStart, walk}
 use Rattle.rules.specs.Fuel.{passing, walking}
 use Rattle.rules.specs.declared.Side.{Side}
@@ -15,11 +14,10 @@ use Rattle.laws.specs.Walks.{one-left}
 use Rattle.laws.specs.Fuel.{passing-turns, walked-once, walking-turns, empty-still, once-fewer}
 use Rattle.laws.specs.Removal.{walk-counts}
 use Rattle.records.specs.Layout.{sidesAt, pointSize, pointRecords}
-use Rattle.records.specs.Fixed.{side-fixed, point-fixed, fixed-count, fixed-length}
+use Rattle.records.specs.Fixed.{side-fixed, point-fixed, fixed-count, fixed-length, fixed-view, fixed-words}
 use Rattle.trails.specs.declared.trail.Trail.{Trail}
 use Rattle.trails.specs.declared.walk.Walked.{Walked}
 use Rattle.trails.specs.Trails.{walkIn, Room, Came, WalkReady, chainWords, Over, WalkedTo}
-use Rattle.trails.proofs.Blocks.{sides-view, points-words}
 use Rattle.trails.proofs.Steps.{count-sides, came-as}
 
 -- ---- once over the sides: what is left of the pass gives the whole. The pass began at v and has come to w
@@ -107,7 +105,7 @@ module _ {k : Walk} {w : List ℕ} {t : Trail} (d : Came k w t) where
   points = sym (ap (λ (j : Walk). length (j .chain)) (d .is)) ∙ fixed-count point-fixed w (t .first) (t .points)
 
   words : view w (t .first) (t .points * pointSize) ≡ pointRecords (k .chain)
-  words = sym (points-words w (t .first) (t .points) (omega (arith, d .room .high))) ∙ ap (λ (j : Walk). pointRecords (j .chain)) (d .is)
+  words = sym (fixed-words point-fixed w (t .first) (t .points) (omega (arith, d .room .high))) ∙ ap (λ (j : Walk). pointRecords (j .chain)) (d .is)
 
   -- the chain is moved to the beginning, and what lies behind it wiped
   pub walk-over : (n : ℕ) {x y : List ℕ} → length w ≡ n → x ≡ splice w 0 (view w (t .first) (t .points * pointSize))
@@ -135,7 +133,7 @@ pub walk-lent : (w ys : List ℕ) (q e n : ℕ) {r : Walked} → WalkReady w q e
 unfolding chainWords
 walk-lent w ys q e n {r} h o l =
     let fits : q + (e - q) ≤ length w = omega (arith, h .room, h .fits) in
-    let s : sidesAt (view w q (e - q)) 0 n ≡ sidesAt w q n = sides-view w q (e - q) n (omega (arith, h .room)) in
+    let s : sidesAt (view w q (e - q)) 0 n ≡ sidesAt w q n = fixed-view side-fixed w q (e - q) n (omega (arith, h .room)) in
     let many : length (sidesAt w q n) ≡ n = fixed-count side-fixed w q n in
     let a : r .left ≡ length (walk (sidesAt w q n) .rest) = rw (← s) (o .left) in
     let b : r .points ≡ length (walk (sidesAt w q n) .chain) = rw (← s) (o .points) in

@@ -43,6 +43,10 @@ pub record Used (v w : List ℕ) (n i : ℕ) : Type 0 where
 abbrev pub walkSize : ℕ → ℕ
 walkSize n = n * sideSize + (n + n + 1) * pointSize
 
+-- so many words for each side are enough, where there is one
+abbrev pub walkRoom : ℕ
+walkRoom = sideSize + pointSize * 3
+
 -- n sides stand at q, and what lies behind them up to e is free
 pub record WalkReady (w : List ℕ) (q e n : ℕ) : Type 0 where
   pub some : 0 < n

@@ -1,8 +1,6 @@
 // The walk along the sides around a vertex.
-ghost use mathlib.Core.Path.{_≡_};
-ghost use Prim.Native.Nat.{_+_, _-_, _≤_, _<_};
-ghost use lib.ListN.{length, replicate};
-ghost use Rattle.mem.specs.Slice.{view, splice};
+ghost use Prim.Native.Nat.{_≤_, _<_};
+ghost use lib.ListN.{length};
 ghost use Rattle.rules.specs.Removal.{walkOnce, walkStart, walk};
 ghost use Rattle.records.specs.Layout.{sidesAt};
 ghost use Rattle.trails.specs.Trails.{walkIn, Room, Came, walkSize, WalkReady, Over, WalkedTo};
@@ -12,8 +10,9 @@ use records::point::POINT_SIZE;
 use records::point::store_point;
 use records::side::SIDE_SIZE;
 use records::side::load_side;
-use records::words::move_down;
 use rules::ChainPoint;
+use words::fill::fill;
+use words::moves::move_down;
 
 // How many sides a walk left, and how many points its chain has.
 pub struct Walked {
@@ -74,19 +73,6 @@ fn walk_all(part: &mut [u32], n: usize) -> Trail
     }
 }
 
-// Zeros from `from` on.
-fn wipe_from(part: &mut [u32], from: usize)
-    requires { ⌜ from ≤ length (now part) ⌝ }
-    ensures { λ _. ⌜ now (part .exit) ≡ splice (now (part .entry)) from (replicate (length (now (part .entry)) - from) 0) ⌝ }
-{
-    let n = part.len() - from;
-    let mut i = 0;
-    while i < n {
-        part[from + i] = 0;
-        i += 1;
-    }
-}
-
 // The walk along the n sides at the part's beginning. Its chain takes their place, and zeros take the place of all else.
 fn walk_in(part: &mut [u32], n: usize) -> Walked
     requires { ⌜ (0 < n) × (walkSize n ≤ length (now part)) ⌝ }
@@ -95,7 +81,8 @@ fn walk_in(part: &mut [u32], n: usize) -> Walked
     let t = walk_all(&mut *part, n);
     let k = t.points * POINT_SIZE;
     move_down(&mut *part, t.first, k);
-    wipe_from(part, k);
+    let e = part.len();
+    fill(part, k, e - k, 0);
     Walked {
         left: t.left,
         points: t.points,

@@ -9,9 +9,9 @@ ghost use Rattle.records.specs.Layout.{vertexSize, vertexIn, verticesAt};
 ghost use Rattle.weld.specs.Tables.{agree, Tabled};
 use crate::hash::compute_vertex_hash;
 use records::vertex::VERTEX_SIZE;
-use records::words::link_at;
 use rules::Found;
 use rules::Vertex;
+use words::places::link_at;
 
 // Where the weld's words stand: 4,096 buckets, the vertices' records, and for each vertex the next one in its bucket.
 pub struct Tables {

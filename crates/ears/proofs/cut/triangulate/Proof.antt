@@ -5,16 +5,12 @@ use mathlib.Core.List.{List, _++_}
 use Prim.Native.Nat.{ℕ, _+_, _-_, _*_}
 use native.Mathlib.Omega.{arith}
 use borrow.Author.Needs.{needs}
-use lib.ListN.{length, take, drop, replicate}
-use Rattle.mem.specs.Slice.{splice, length-splice}
+use lib.ListN.{length, take, drop}
+use Rattle.mem.specs.Slice.{splice, length-splice, lent-sized}
 use Rattle.rules.specs.Ears.{indices}
-use Rattle.mem.specs.Slice.{lent-sized}
 use Rattle.ears.proofs.Cuts.{counted-ready, marked-ready, answered, done-words, stuck-words}
 use Rattle.ears.proofs.cut.triangulate.Statement.{statement}
 use Rattle.ears.proofs.cut.triangulate.Tie as tie
-
--- `ears::cut::triangulate` meets its contract: each call leaves one splice of the part, by which the cutting's answer is the rules' and the words
--- that are left are wiped. Assumes nothing.
 
 -- where the numbers stand in it: the part as it was, and how many points it has
 abbrev before-it : tie.After-part → List ℕ
@@ -78,38 +74,17 @@ cut-all-requires c κs =
 enum-told : tie.Need-enum-told
 enum-told c = search needs
 
-mul-wipe : tie.Need-mul-wipe
-mul-wipe c = search needs
-
-sub-wipe : tie.Need-sub-wipe
-sub-wipe c = search needs
-
-part-wipe-start : tie.Need-part-wipe-start
-part-wipe-start c = search needs
-
-part-wipe-end : tie.Need-part-wipe-end
-part-wipe-end c = search needs
-
-wipe-requires : tie.Need-wipe-requires
-wipe-requires c κs = search needs
+fill-requires : tie.Need-fill-requires
+fill-requires c κs = search needs
 
 enum-told-2 : tie.Need-enum-told-2
 enum-told-2 c = search needs
 
-mul-wipe-2 : tie.Need-mul-wipe-2
-mul-wipe-2 c = search needs
+sub-fill : tie.Need-sub-fill
+sub-fill c = search needs
 
-sub-wipe-2 : tie.Need-sub-wipe-2
-sub-wipe-2 c = search needs
-
-part-wipe-start-2 : tie.Need-part-wipe-start-2
-part-wipe-start-2 c = search needs
-
-part-wipe-end-2 : tie.Need-part-wipe-end-2
-part-wipe-end-2 c = search needs
-
-wipe-requires-2 : tie.Need-wipe-requires-2
-wipe-requires-2 c κs = search needs
+fill-requires-2 : tie.Need-fill-requires-2
+fill-requires-2 c κs = search needs
 
 same-length : tie.Need-same-length
 same-length c = search needs
@@ -122,14 +97,11 @@ returns c =
     let s = first .before .before .before .before in
     let n = s .args .n in
     let v = s .args .part .now in
-    let e : n * 3 - n * 2 ≡ n = omega arith in
     let q = c .before .before .before .before .enum-told .given .1 in
     let l = cut-long (c .before .before .before .before .before .before .before) in
-    let ended = c .before .before .wipe in (
+    let ended = c .before .before .fill in (
       answered n v (s .pre) (counted first) (marks .mark-all .ensures) (cuts .cut-all .ensures),
-      done-words n v (s .pre) (counted first) (marks .mark-all .ensures) (cuts .cut-all .ensures) q l
-          (lent-sized (λ j. replicate j 0) (cuts .cut-all .last .0) (ended .last .0) (n * 2) n _ e (ended .ensures) (ended .kept .0)
-          (omega (arith, l, s .pre .some, s .pre .size))),
+      done-words n v (s .pre) (counted first) (marks .mark-all .ensures) (cuts .cut-all .ensures) q l (ended .ensures),
     )
 
 same-length-2 : tie.Need-same-length-2
@@ -144,13 +116,10 @@ returns-2 c =
     let n = s .args .n in
     let v = s .args .part .now in
     let l = cut-long (c .before .before .before .before .before .before .before) in
-    let e : length (cuts .cut-all .last .0) - n * 2 ≡ n + (n - 2) * 3 = omega (arith, l, s .pre .some, s .pre .size) in
     let q = c .before .before .before .before .enum-told2 .given .1 in
-    let ended = c .before .before .wipe2 in (
+    let ended = c .before .before .fill2 in (
       answered n v (s .pre) (counted first) (marks .mark-all .ensures) (cuts .cut-all .ensures),
-      stuck-words n v (s .pre) (counted first) (marks .mark-all .ensures) (cuts .cut-all .ensures) q l
-          (lent-sized (λ j. replicate j 0) (cuts .cut-all .last .0) (ended .last .0) (n * 2) (n + (n - 2) * 3) _ e (ended .ensures) (ended .kept .0)
-          (omega (arith, l, s .pre .some, s .pre .size))),
+      stuck-words n v (s .pre) (counted first) (marks .mark-all .ensures) (cuts .cut-all .ensures) q l (ended .ensures),
     )
 
 pub triangulate-spec : {M : Type 1} → statement M
@@ -167,17 +136,10 @@ triangulate-spec =
     mark-all-requires
     cut-all-requires
     enum-told
-    mul-wipe
-    sub-wipe
-    part-wipe-start
-    part-wipe-end
-    wipe-requires
+    fill-requires
     enum-told-2
-    mul-wipe-2
-    sub-wipe-2
-    part-wipe-start-2
-    part-wipe-end-2
-    wipe-requires-2
+    sub-fill
+    fill-requires-2
     same-length
     returns
     same-length-2

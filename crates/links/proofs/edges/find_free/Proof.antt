@@ -9,7 +9,7 @@ use Rattle.links.proofs.edges.find_free.Tie as tie
 use Rattle.links.proofs.edges.find_free.Reads as reads
 use Rattle.links.proofs.edges.find_free.Lts as lts
 use Rattle.links.proofs.edges.is_free.Reads as is-free-reads
-use Rattle.records.proofs.words.link_at.Reads as link-at-reads
+use Rattle.words.proofs.places.link_at.Reads as link-at-reads
 use Rattle.records.proofs.edge.load_edge.Reads as load-edge-reads
 
 abbrev Inv-loop : tie.InvT-loop

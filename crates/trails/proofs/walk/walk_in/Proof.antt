@@ -14,8 +14,11 @@ mul-k c = search needs
 move-down-requires : tie.Need-move-down-requires
 move-down-requires c κs = search needs
 
-wipe-from-requires : tie.Need-wipe-from-requires
-wipe-from-requires c κs = search needs
+sub-fill : tie.Need-sub-fill
+sub-fill c = search needs
+
+fill-requires : tie.Need-fill-requires
+fill-requires c κs = search needs
 
 same-length : tie.Need-same-length
 same-length c = search needs
@@ -26,9 +29,9 @@ returns c =
     let m = z .before .before .before .before in
     let a = m .before .before .before .before .before in
     let g = a .before .before .before .args in
-    walk-over (a .walk-all .ensures) (length (g .part .now)) (a .walk-all .kept .0) (m .move-down .ensures) (z .wipe-from .ensures)
+    walk-over (a .walk-all .ensures) (length (g .part .now)) (a .walk-all .kept .0) (m .move-down .ensures) (z .fill .ensures)
 
 pub walk-in-spec : {M : Type 1} → statement M
 walk-in-spec =
     tie.close
-    (tie.spec walk-all-requires mul-k move-down-requires wipe-from-requires same-length returns)
+    (tie.spec walk-all-requires mul-k move-down-requires sub-fill fill-requires same-length returns)

@@ -12,7 +12,7 @@ use Rattle.weld.proofs.find.find_vertex.Tie as tie
 use Rattle.weld.proofs.find.find_vertex.Reads as reads
 use Rattle.weld.proofs.find.find_vertex.Lts as lts
 use Rattle.weld.proofs.find.agrees.Reads as agrees-reads
-use Rattle.records.proofs.words.link_at.Reads as link-at-reads
+use Rattle.words.proofs.places.link_at.Reads as link-at-reads
 use Rattle.weld.proofs.hash.compute_vertex_hash.Reads as compute-vertex-hash-reads
 
 abbrev Inv-loop : tie.InvT-loop

@@ -1,8 +1,8 @@
--- `ears::words::index_of` meets its contract: a mask of 28 bits is a remainder. Assumes nothing.
+-- `ears::index::index_of` meets its contract: a mask of 28 bits is a remainder. Assumes nothing.
 use lib.Bits.{and-mask}
 use Rattle.rules.specs.Ears.{indexOf}
-use Rattle.ears.proofs.words.index_of.Statement.{statement}
-use Rattle.ears.proofs.words.index_of.Tie as tie
+use Rattle.ears.proofs.index.index_of.Statement.{statement}
+use Rattle.ears.proofs.index.index_of.Tie as tie
 
 returns : tie.Need-returns
 unfolding indexOf

@@ -1,11 +1,11 @@
--- `ears::words::with_mark` meets its contract: the index is a remainder, and the top bit, which it does not have, is added to it. Assumes nothing.
+-- `ears::index::with_mark` meets its contract: the index is a remainder, and the top bit, which it does not have, is added to it. Assumes nothing.
 use mathlib.Core.Path.{_∙_}
 use Prim.Native.Nat.{_%_, _^_}
 use native.Mathlib.Omega.{arith}
 use lib.Bits.{and-mask, or-shifted-r}
 use Rattle.rules.specs.Ears.{indexOf, withMark}
-use Rattle.ears.proofs.words.with_mark.Statement.{statement}
-use Rattle.ears.proofs.words.with_mark.Tie as tie
+use Rattle.ears.proofs.index.with_mark.Statement.{statement}
+use Rattle.ears.proofs.index.with_mark.Tie as tie
 
 returns : tie.Need-returns
 unfolding withMark indexOf

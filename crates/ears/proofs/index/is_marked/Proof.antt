@@ -1,9 +1,9 @@
--- `ears::words::is_marked` meets its contract: the top bit tells the words from 2^31 on. Assumes nothing.
+-- `ears::index::is_marked` meets its contract: the top bit tells the words from 2^31 on. Assumes nothing.
 use borrow.Author.Needs.{needs}
 use Rattle.rules.specs.Ears.{isMarked}
 use Rattle.ears.proofs.Bits.{top-bit}
-use Rattle.ears.proofs.words.is_marked.Statement.{statement}
-use Rattle.ears.proofs.words.is_marked.Tie as tie
+use Rattle.ears.proofs.index.is_marked.Statement.{statement}
+use Rattle.ears.proofs.index.is_marked.Tie as tie
 
 returns : tie.Need-returns
 unfolding isMarked
