@@ -1,6 +1,6 @@
--- The test as a whole: what its steps come to. Assumes nothing.
--- Key: `says-few` and `says-used`: what the sides say; `says-twice`, `says-open` and `says-all`: what the test says; `wiped`: the scratch at the end.
-use mathlib.Core.Path.{_≡_, refl, sym, ap, _∙_}
+-- The test as a whole: what its steps ask for and what they come to. Scratch that was zeros is zeros again. Assumes nothing.
+-- Key: `few-sides` and `walked-all`: what the sides say; `not-few` and `by-sides`: what the test says.
+use mathlib.Core.Path.{_≡_, refl, sym, ap, subst, _∙_}
 use mathlib.Core.Bool.{Bool, true, false, _&&_}
 use mathlib.Core.List.{List, _++_}
 use Prim.Native.Nat.{ℕ, _+_, _-_, _*_, _≤_, _<_}
@@ -8,148 +8,120 @@ use native.Mathlib.Omega.{arith}
 use borrow.Author.Tests.{lt-ltb, le-ltb}
 use lib.Dec.{eqb, leb, ltb}
 use lib.ListN.{length, replicate, length-append, length-replicate}
-use Rattle.mem.specs.Slice.{splice, splice-eq, take-splice, drop-splice, length-splice}
+use Rattle.ints.specs.Bools.{and-left}
+use Rattle.mem.specs.Slice.{view, splice, splice-over, blank-first, blank-behind, blank-again}
 use Rattle.rules.specs.Mesh.{Polygon}
 use Rattle.rules.specs.Removal.{sidesLeft, walk, heldOnce, neighbours, metOnce, canRemove}
+use Rattle.rules.specs.declared.Side.{Side}
+use Rattle.rules.specs.declared.ChainPoint.{ChainPoint}
 use Rattle.laws.specs.Measures.{sparesIn}
 use Rattle.laws.specs.Merge.{polygons-few}
-use Rattle.laws.specs.Around.{neighbours-few}
 use Rattle.laws.specs.Removal.{sides-few}
 use Rattle.records.specs.Layout.{polygonsAt, sideSize, sidesAt, sideRecords, pointSize, pointRecords}
+use Rattle.records.specs.Polygons.{length-polygons}
 use Rattle.records.specs.Fixed.{side-fixed, point-fixed, fixed-length}
-use Rattle.trails.specs.Sides.{CollectReady, Collected}
-use Rattle.trails.specs.Trails.{WalkReady, WalkedTo}
+use Rattle.trails.specs.Sides.{Collected}
+use Rattle.trails.specs.Trails.{walkSize, walkRoom, WalkedTo}
 use Rattle.trails.specs.declared.walk.Walked.{Walked}
-use Rattle.holes.specs.Verdict.{PushReady, FewOpen, TestReady, OnceReady, sidesUsed, Kept, Says, Tested}
-use Rattle.holes.proofs.Pushes.{polygons-kept}
-
--- ---- what is kept
-
-kept-splice : (v : List ℕ) (q e : ℕ) (xs : List ℕ) {w : List ℕ} → w ≡ splice v q xs → q + length xs ≤ e → Kept q e v w
-kept-splice v q e xs f h =
-    rw f (record { before = take-splice v q q xs (omega arith); behind = drop-splice v q e xs h; long = length-splice v q xs })
-
-kept-then : {q e : ℕ} {v w u : List ℕ} → Kept q e v w → Kept q e w u → Kept q e v u
-kept-then k l = record { before = l .before ∙ k .before; behind = l .behind ∙ k .behind; long = l .long ∙ k .long }
-
--- the words from q up to e, written anew
-kept-anew : {q e : ℕ} {v w : List ℕ} (xs : List ℕ) → Kept q e v w → q + length xs ≡ e → e ≤ length v → splice w q xs ≡ splice v q xs
-kept-anew {q} {e} {v} {w} xs k l h = rw (splice-eq w q xs (omega (arith, k .long)), splice-eq v q xs (omega arith), l, k .before, k .behind) refl
-
--- ---- what the steps of the test ask for
-
-module _ {w : List ℕ} {o np q e : ℕ} (r : TestReady w o np q e) (rem : ℕ) (once : heldOnce rem (polygonsAt w o np) ≡ true) where
-  neighbours-fit : q + length (neighbours rem (polygonsAt w o np)) ≤ e
-  neighbours-fit = omega (arith, neighbours-few rem (polygonsAt w o np) once, polygons-few (r .long), r .room)
-
-  pub push-ready : PushReady w o np q rem
-  push-ready = record { behind = r .behind; small = r .small; room = omega (arith, neighbours-fit, r .fits) }
-
-  module _ {b : Bool} {u : List ℕ} (f : FewOpen w o np q rem b u) where
-    -- the polygons are as they were
-    still : polygonsAt u o np ≡ polygonsAt w o np
-    still = rw (f .is) (polygons-kept w o np q (neighbours rem (polygonsAt w o np)) (r .behind))
-
-    open-kept : Kept q e w u
-    open-kept = kept-splice w q e (neighbours rem (polygonsAt w o np)) (f .is) neighbours-fit
-
-    pub once-ready : OnceReady u o np q e rem
-    once-ready = record {
-      ready = record {
-        small = rw still (r .small);
-        long = rw still (r .long);
-        behind = r .behind;
-        room = rw still (r .room);
-        fits = omega (arith, open-kept .long, r .fits);
-      };
-      once = rw still once;
-    }
+use Rattle.holes.specs.Verdict.{Tested, PushReady, fewOpen, SidesReady, sidesUsed, TestReady}
 
 -- ---- what the sides say
 
-module _ {w : List ℕ} {o np q e rem : ℕ} (r : OnceReady w o np q e rem) where
-  -- the sides are no more than there is room for
-  few : length (sidesLeft rem (polygonsAt w o np)) ≤ sparesIn (polygonsAt w o np)
-  few = sides-few rem (polygonsAt w o np) (r .ready .long) (r .once)
+module _ {w : List ℕ} {o np q rem : ℕ} (r : SidesReady w o np q rem) {u : List ℕ} {n : ℕ} (c : Collected w u o np q rem n) where
+  abbrev sides : List Side
+  sides = sidesLeft rem (polygonsAt w o np)
 
-  fit : length (sidesLeft rem (polygonsAt w o np)) * sideSize + q ≤ e
-  fit = omega (arith, few, r .ready .room)
+  counted : length (sideRecords sides) ≡ n * sideSize
+  counted = fixed-length side-fixed sides ∙ rw (c .count)
 
-  pub collect-ready : CollectReady w o np q rem
-  collect-ready = record { behind = r .ready .behind; small = r .ready .small; room = omega (arith, fit, r .ready .fits) }
+  -- words in the scratch, and then zeros in their place
+  wiped : (xs : List ℕ) (m : ℕ) → length xs ≡ m → m ≤ n * walkRoom → splice (splice w q xs) q (replicate m 0) ≡ w
+  wiped xs m e h = blank-again w q (length sides * walkRoom) 0 (r .blank) xs m e (omega (arith, c .count))
 
-  module _ {u : List ℕ} {n : ℕ} (c : Collected w u o np q rem n) where
-    collected-kept : Kept q e w u
-    collected-kept = let ss = sidesLeft rem (polygonsAt w o np) in
-        kept-splice w q e (sideRecords ss) (c .is) (omega (arith, fixed-length side-fixed ss, fit))
-
-    -- too few of them
-    pub says-few : n ≤ 2 → Says (sidesUsed rem (polygonsAt w o np)) w q e false u
-    unfolding sidesUsed
-    says-few h = record { right = rw (le-ltb 2 (length (sidesLeft rem (polygonsAt w o np))) (omega (arith, c .count))); kept = collected-kept }
-
-    pub walk-ready : 0 < n → WalkReady u q e n
-    walk-ready h = record {
-      some = h;
-      room = omega (arith, c .count, few, r .ready .room);
-      fits = omega (arith, collected-kept .long, r .ready .fits);
-    }
-
-    pub says-used : {x : List ℕ} {k : Walked} → 2 < n → WalkedTo u x q e n k → Says (sidesUsed rem (polygonsAt w o np)) w q e (eqb (k .left) 0) x
-    unfolding sidesUsed
-    says-used {x} {k} h d =
-        let ss = sidesLeft rem (polygonsAt w o np) in
-        let chain = walk (sidesAt u q n) .chain in
-        let ys = pointRecords chain ++ replicate (e - q - length chain * pointSize) 0 in
-        let within : q + length ys ≤ e = simp (length-append, length-replicate)
-        (omega (arith, fixed-length point-fixed chain, d .points, d .counts, c .count, few, r .ready .room)) in
-        record {
-          right = rw (d .left, c .sides, lt-ltb 2 (length ss) (omega (arith, c .count)));
-          kept = kept-then collected-kept (kept-splice u q e ys (d .is) within);
-        }
-
--- ---- what the test says
-
-and-false : (a b c d : Bool) → c ≡ false → false ≡ a && (b && (c && d))
-and-false true true c d q = rw q
-and-false true false c d q = refl
-and-false false b c d q = refl
-
-module _ (rem : ℕ) (ps : List Polygon) where
-  not-few : leb (metOnce (neighbours rem ps)) 2 ≡ false → false ≡ canRemove rem ps
-  unfolding canRemove
-  not-few h =
-      and-false (heldOnce rem ps) (ltb 2 (length (sidesLeft rem ps))) (leb (metOnce (neighbours rem ps)) 2)
-      (eqb (length (walk (sidesLeft rem ps) .rest)) 0) h
-
-  by-sides : heldOnce rem ps ≡ true → leb (metOnce (neighbours rem ps)) 2 ≡ true → sidesUsed rem ps ≡ canRemove rem ps
-  unfolding canRemove sidesUsed
-  by-sides h k = rw (h, k)
-
--- a polygon holds the vertex twice
-pub says-twice : (w : List ℕ) (o np q e rem : ℕ) → heldOnce rem (polygonsAt w o np) ≡ false → Says (canRemove rem (polygonsAt w o np)) w q e false w
-unfolding canRemove
-says-twice w o np q e rem h = record { right = rw h; kept = record { before = refl; behind = refl; long = refl } }
-
-module _ {w : List ℕ} {o np q e : ℕ} (r : TestReady w o np q e) (rem : ℕ) (once : heldOnce rem (polygonsAt w o np) ≡ true)
-    {b : Bool} {u : List ℕ} (f : FewOpen w o np q rem b u) where
-  -- too many neighbours are met once
-  pub says-open : b ≡ false → Says (canRemove rem (polygonsAt w o np)) w q e false u
-  says-open h = record { right = not-few rem (polygonsAt w o np) (sym (f .answer) ∙ h); kept = open-kept r rem once f }
-
-  -- the rest is up to the sides
-  pub says-all : {a : Bool} {x : List ℕ} → b ≡ true → Says (sidesUsed rem (polygonsAt u o np)) u q e a x
-      → Says (canRemove rem (polygonsAt w o np)) w q e a x
-  says-all h s = record {
-    right = s .right ∙ ap (sidesUsed rem) (still r rem once f) ∙ by-sides rem (polygonsAt w o np) once (sym (f .answer) ∙ h);
-    kept = kept-then (open-kept r rem once f) (s .kept);
+  -- too few of them
+  pub few-sides : {x : List ℕ} → n ≤ 2 → x ≡ splice u q (replicate (n * sideSize) 0) → Tested (sidesUsed rem (polygonsAt w o np)) w false x
+  unfolding sidesUsed
+  few-sides h e = record {
+    answer = rw (le-ltb 2 (length sides) (omega (arith, c .count)));
+    is = e ∙ rw (c .is) (wiped (sideRecords sides) (n * sideSize) counted (omega arith));
   }
 
--- ---- the scratch is wiped
+  module _ {x : List ℕ} {e : ℕ} {k : Walked} (many : 2 < n) (f : e ≡ q + walkSize n) (d : WalkedTo u x q e n k) where
+    abbrev chain : List ChainPoint
+    chain = walk (sidesAt u q n) .chain
 
-pub wiped : {w v u : List ℕ} {o np q e rem : ℕ} {b : Bool} → TestReady w o np q e → Says (canRemove rem (polygonsAt w o np)) w q e b v
-    → u ≡ splice v q (replicate (e - q) 0) → Tested w o np q e rem b u
-wiped {q = q} {e = e} r s f = record {
-  answer = s .right;
-  is = f ∙ kept-anew (replicate (e - q) 0) (s .kept) (rw length-replicate (omega (arith, r .room))) (r .fits);
-}
+    chain-counted : length (pointRecords chain) ≡ k .points * pointSize
+    chain-counted = fixed-length point-fixed chain ∙ rw (d .points)
+
+    chain-few : k .points * pointSize ≤ walkSize n
+    chain-few = omega (arith, d .counts)
+
+    -- the sides are gone, and behind the chain are zeros as there were
+    chain-alone : x ≡ splice w q (pointRecords chain)
+    chain-alone =
+        let z = e - q - length chain * pointSize in
+        let ys = pointRecords chain ++ replicate z 0 in
+        let l : length ys ≡ length (pointRecords chain) + z = simp (length-append, length-replicate) in
+        d .is ∙ ap (λ (b : List ℕ). splice b q ys) (c .is)
+        ∙ splice-over w q (sideRecords sides) ys (omega (arith, counted, l, chain-counted, d .points, chain-few))
+        ∙ blank-behind w q (length sides * walkRoom) 0 (r .blank) (pointRecords chain) z (omega (arith, c .count, chain-counted, d .points, chain-few))
+
+    -- more than two, and a walk along them
+    pub walked-all : {y : List ℕ} → y ≡ splice x q (replicate (k .points * pointSize) 0)
+        → Tested (sidesUsed rem (polygonsAt w o np)) w (eqb (k .left) 0) y
+    unfolding sidesUsed
+    walked-all g = record {
+      answer = rw (d .left, c .sides, lt-ltb 2 (length sides) (omega (arith, c .count)));
+      is = g ∙ rw chain-alone (wiped (pointRecords chain) (k .points * pointSize) chain-counted (omega (arith, chain-few)));
+    }
+
+-- ---- what the steps of the test ask for, and what they come to
+
+regroup : (a b c d : Bool) → ((a && c) && (b && d)) ≡ (a && (b && (c && d)))
+regroup true true c d = refl
+regroup true false true d = refl
+regroup true false false d = refl
+regroup false b c d = refl
+
+parts : (rem : ℕ) (ps : List Polygon) → (fewOpen rem ps && sidesUsed rem ps) ≡ canRemove rem ps
+unfolding canRemove fewOpen sidesUsed
+parts rem ps =
+    regroup (heldOnce rem ps) (ltb 2 (length (sidesLeft rem ps))) (leb (metOnce (neighbours rem ps)) 2) (eqb (length (walk (sidesLeft rem ps) .rest)) 0)
+
+module _ {w : List ℕ} {o np q : ℕ} (r : TestReady w o np q) where
+  zeros : (n : ℕ) → n ≤ sparesIn (polygonsAt w o np) * walkRoom → view w q n ≡ replicate n 0
+  zeros n h = blank-first w q (sparesIn (polygonsAt w o np) * walkRoom) 0 (r .blank) n h
+
+  pairs-fit : 2 * np ≤ sparesIn (polygonsAt w o np) * walkRoom
+  pairs-fit = omega (arith, polygons-few (r .long), length-polygons w o np)
+
+  pub push-ready : PushReady w o np q
+  push-ready = record { behind = r .behind; small = r .small; room = omega (arith, pairs-fit, r .room); blank = zeros (2 * np) pairs-fit }
+
+  module _ (rem : ℕ) {b : Bool} {u : List ℕ} (f : Tested (fewOpen rem (polygonsAt w o np)) w b u) where
+    -- too many neighbours are met once, or a polygon holds the vertex twice
+    pub not-few : b ≡ false → Tested (canRemove rem (polygonsAt w o np)) w false u
+    not-few h = record { answer = rw (sym (f .answer) ∙ h) at (parts rem (polygonsAt w o np)); is = f .is }
+
+    module _ (h : b ≡ true) where
+      few : fewOpen rem (polygonsAt w o np) ≡ true
+      few = sym (f .answer) ∙ h
+
+      sides-fit : length (sidesLeft rem (polygonsAt w o np)) * walkRoom ≤ sparesIn (polygonsAt w o np) * walkRoom
+      unfolding fewOpen
+      sides-fit = omega (arith, sides-few rem (polygonsAt w o np) (r .long) (and-left _ _ few))
+
+      pub sides-ready : SidesReady u o np q rem
+      sides-ready = subst (λ (l : List ℕ). SidesReady l o np q rem) (sym (f .is)) (record {
+        behind = r .behind;
+        small = r .small;
+        room = omega (arith, sides-fit, r .room);
+        blank = zeros (length (sidesLeft rem (polygonsAt w o np)) * walkRoom) sides-fit;
+      })
+
+      -- the rest is up to the sides
+      pub by-sides : {a : Bool} {x : List ℕ} → Tested (sidesUsed rem (polygonsAt u o np)) u a x → Tested (canRemove rem (polygonsAt w o np)) w a x
+      by-sides s = record {
+        answer = s .answer ∙ ap (λ (l : List ℕ). sidesUsed rem (polygonsAt l o np)) (f .is) ∙ (rw few at (parts rem (polygonsAt w o np)));
+        is = s .is ∙ f .is;
+      }

@@ -1,19 +1,21 @@
 // R5: whether a vertex can go.
 ghost use mathlib.Core.Path.{_≡_};
-ghost use Prim.Native.Nat.{_+_, _-_, _≤_};
-ghost use lib.ListN.{length, replicate};
-ghost use Rattle.mem.specs.Slice.{splice};
+ghost use Prim.Native.Nat.{_+_, _≤_};
+ghost use lib.ListN.{length};
 ghost use Rattle.rules.specs.Lists.{count};
-ghost use Rattle.rules.specs.Removal.{holds, heldOnce, otherEnd, neighboursIn, neighbours, metOnce, canRemove};
+ghost use Rattle.rules.specs.Removal.{holds, otherEnd, neighboursIn, metOnce, canRemove};
 ghost use Rattle.records.specs.Layout.{mostCorners, polygonsAt};
 ghost use Rattle.records.specs.Values.{cornersOf, polygonOf};
-ghost use Rattle.holes.specs.Verdict.{Standing, Wrote, PushReady, FewOpen, TestReady, OnceReady, sidesUsed, Says, Tested};
+ghost use Rattle.holes.specs.Verdict.{Wrote, PushReady, Pushed, fewOpen, SidesReady, sidesUsed, TestReady, Tested};
+use records::point::POINT_SIZE;
 use records::polygon::Poly;
 use records::polygon::corner;
 use records::polygon::load_at;
 use records::polygon::side_end;
+use records::side::SIDE_SIZE;
 use trails::sides::collect_sides;
 use trails::walk::walk_sides;
+use words::fill::fill;
 
 // How often v stands in s.
 fn count_in(s: &[u32], v: u32) -> usize
@@ -37,22 +39,6 @@ fn holds_in(p: Poly, rem: u32) -> usize
 {
     let corners = p.corners;
     count_in(&corners[..p.n], rem)
-}
-
-// Whether each of the np polygons at o holds the vertex at most once.
-fn held_once(work: &[u32], o: usize, np: usize, rem: u32) -> bool
-    requires { ⌜ Standing (now work) o np ⌝ }
-    ensures { λ r. ⌜ r ≡ heldOnce rem (polygonsAt (now (work .entry)) o np) ⌝ }
-{
-    let mut i = 0;
-    while i < np {
-        let p = load_at(work, o, np, i);
-        if 1 < holds_in(p, rem) {
-            return false;
-        }
-        i += 1;
-    }
-    true
 }
 
 // The other end of the side from a to b is written at `at`, if the side touches the vertex. The result says how many
@@ -86,19 +72,28 @@ fn push_neighbours(work: &mut [u32], at: usize, p: Poly, rem: u32) -> usize
     k
 }
 
-// The neighbours of the vertex in the np polygons at o are written at q.
-fn push_all(work: &mut [u32], o: usize, np: usize, q: usize, rem: u32) -> usize
-    requires { ⌜ PushReady (now work) o np q rem ⌝ }
-    ensures { λ r. ⌜ Wrote (now (work .entry)) q (neighbours rem (polygonsAt (now (work .entry)) o np)) r (now (work .exit)) ⌝ }
+// What was met in the polygons: whether each of them holds the vertex at most once, and how many words were written.
+struct Met {
+    once: bool,
+    n: usize,
+}
+
+// The neighbours of the vertex in the np polygons at o are written at q. A polygon that holds the vertex twice ends it.
+fn push_all(work: &mut [u32], o: usize, np: usize, q: usize, rem: u32) -> Met
+    requires { ⌜ PushReady (now work) o np q ⌝ }
+    ensures { λ r. ⌜ Pushed (now (work .entry)) o np q rem r (now (work .exit)) ⌝ }
 {
     let mut k: usize = 0;
     let mut i = 0;
     while i < np {
         let p = load_at(work, o, np, i);
+        if 1 < holds_in(p, rem) {
+            return Met { once: false, n: k };
+        }
         k += push_neighbours(work, q + k, p, rem);
         i += 1;
     }
-    k
+    Met { once: true, n: k }
 }
 
 // How many of the words stand there once.
@@ -116,69 +111,43 @@ fn met_once(s: &[u32]) -> usize
     c
 }
 
-// Whether at most 2 neighbours of the vertex are met once. The neighbours are written at q.
+// Whether each polygon holds the vertex at most once, and at most 2 neighbours of it are met once. The zeros at q are
+// used, and are zeros again.
 fn few_open(work: &mut [u32], o: usize, np: usize, q: usize, rem: u32) -> bool
-    requires { ⌜ PushReady (now work) o np q rem ⌝ }
-    ensures { λ r. ⌜ FewOpen (now (work .entry)) o np q rem r (now (work .exit)) ⌝ }
+    requires { ⌜ PushReady (now work) o np q ⌝ }
+    ensures { λ r. ⌜ Tested (fewOpen rem (polygonsAt (now (work .entry)) o np)) (now (work .entry)) r (now (work .exit)) ⌝ }
 {
-    let k = push_all(work, o, np, q, rem);
-    let e = q + k;
-    met_once(&work[q..e]) <= 2
+    let met = push_all(work, o, np, q, rem);
+    let e = q + met.n;
+    let few = met_once(&work[q..e]) <= 2;
+    fill(work, q, met.n, 0);
+    met.once & few
 }
 
-// The words from a up to e become zeros.
-fn wipe(work: &mut [u32], a: usize, e: usize)
-    requires { ⌜ (a ≤ e) × (e ≤ length (now work)) ⌝ }
-    ensures { λ _. ⌜ now (work .exit) ≡ splice (now (work .entry)) a (replicate (e - a) 0) ⌝ }
-{
-    let n = e - a;
-    let mut i = 0;
-    while i < n {
-        work[a + i] = 0;
-        i += 1;
-    }
-}
-
-// Whether more than 2 sides stay that don't touch the vertex, and the walk uses them all. What lies from q up to e is
-// scratch.
-fn sides_used(work: &mut [u32], o: usize, np: usize, q: usize, e: usize, rem: u32) -> bool
-    requires { ⌜ OnceReady (now work) o np q e rem ⌝ }
-    ensures { λ r. ⌜ Says (sidesUsed rem (polygonsAt (now (work .entry)) o np)) (now (work .entry)) q e r (now (work .exit)) ⌝ }
+// Whether more than 2 sides stay that don't touch the vertex, and the walk uses them all. The zeros at q are used, and
+// are zeros again.
+fn sides_used(work: &mut [u32], o: usize, np: usize, q: usize, rem: u32) -> bool
+    requires { ⌜ SidesReady (now work) o np q rem ⌝ }
+    ensures { λ r. ⌜ Tested (sidesUsed rem (polygonsAt (now (work .entry)) o np)) (now (work .entry)) r (now (work .exit)) ⌝ }
 {
     let n = collect_sides(work, o, np, q, rem);
     if n <= 2 {
+        fill(work, q, n * SIDE_SIZE, 0);
         return false;
     }
+    let e = q + n * SIDE_SIZE + (n + n + 1) * POINT_SIZE;
     let walked = walk_sides(work, q, e, n);
+    fill(work, q, walked.points * POINT_SIZE, 0);
     walked.left == 0
 }
 
-// Whether the vertex can go. What lies from q up to e is scratch.
-fn may_go(work: &mut [u32], o: usize, np: usize, q: usize, e: usize, rem: u32) -> bool
-    requires { ⌜ TestReady (now work) o np q e ⌝ }
-    ensures { λ r. ⌜ Says (canRemove rem (polygonsAt (now (work .entry)) o np)) (now (work .entry)) q e r (now (work .exit)) ⌝ }
+// Whether the vertex can go, by the np polygons at o. The zeros from q on are used, and are zeros again.
+pub fn can_remove_vertex(work: &mut [u32], o: usize, np: usize, q: usize, rem: u32) -> bool
+    requires { ⌜ TestReady (now work) o np q ⌝ }
+    ensures { λ r. ⌜ Tested (canRemove rem (polygonsAt (now (work .entry)) o np)) (now (work .entry)) r (now (work .exit)) ⌝ }
 {
-    if held_once(work, o, np, rem) {
-        if few_open(work, o, np, q, rem) {
-            return sides_used(work, o, np, q, e, rem);
-        }
+    if few_open(work, o, np, q, rem) {
+        return sides_used(work, o, np, q, rem);
     }
     false
-}
-
-// Whether the vertex can go, by the np polygons at o. What lies from q up to e is scratch, and becomes zeros.
-pub fn can_remove_vertex(
-    work: &mut [u32],
-    o: usize,
-    np: usize,
-    q: usize,
-    e: usize,
-    rem: u32,
-) -> bool
-    requires { ⌜ TestReady (now work) o np q e ⌝ }
-    ensures { λ r. ⌜ Tested (now (work .entry)) o np q e rem r (now (work .exit)) ⌝ }
-{
-    let goes = may_go(work, o, np, q, e, rem);
-    wipe(work, q, e);
-    goes
 }

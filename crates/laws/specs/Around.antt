@@ -1,6 +1,7 @@
 -- R5, the polygons around a vertex: their untouched sides have their area as seen from the vertex, and are two fewer than their corners; those that go and
 -- those that stay are all of them. Assumes nothing.
--- Key: `took-out`: those that go and those that stay are all polygons; `area-untouched`, `length-untouched`: what their sides have; `neighbours-few`.
+-- Key: `took-out`: those that go and those that stay are all polygons; `area-untouched`, `length-untouched`: what their sides have; `polygon-few`:
+-- how many neighbours the vertex has in a polygon.
 use Prim.Native.Nat.{ℕ, zero, suc, _+_, _-_, _*_, _≤_, _<_}
 use native.Mathlib.Omega.{arith}
 use native.Mathlib.Numerals.{add-one}
@@ -286,23 +287,10 @@ ends-few rem cs (suc m) i e = ⊎-elim
     rw (next-out i (length cs) h, z, append-nil (otherEnd rem (getD cs i 0) (getD cs 0 0))) (omega (arith, end-few rem (getD cs i 0) (getD cs 0 0))))
     (lt-or-le (i + 1) (length cs))
 
-polygon-few : (rem : ℕ) (cs : List ℕ) → length (neighboursIn rem cs) ≤ 2 * count rem cs
+pub polygon-few : (rem : ℕ) (cs : List ℕ) → length (neighboursIn rem cs) ≤ 2 * count rem cs
 unfolding neighboursIn over run count
 polygon-few rem [] = omega arith
 polygon-few rem (c ∷ cs) = omega (arith, ends-few rem (c ∷ cs) (length (c ∷ cs) - 0) 0 (omega arith))
-
-run-few : (f : ℕ → List ℕ) (m i : ℕ) → ((j : ℕ) → j < i + m → length (f j) ≤ 2) → length (run [] _++_ f i m) ≤ 2 * m
-unfolding run
-run-few f zero i h = omega arith
-run-few f (suc m) i h = omega (arith, length-append (f i) (run [] _++_ f (suc i) m), h i (omega arith), run-few f m (suc i) (λ j k. h j (omega arith)))
-
-pub neighbours-few : (rem : ℕ) (ps : List Polygon) → heldOnce rem ps ≡ true → length (neighbours rem ps) ≤ 2 * length ps
-unfolding neighbours over holds
-neighbours-few rem ps e = omega (
-  arith,
-  run-few (λ i. neighboursIn rem (polygonAt ps i .corners)) (length ps - 0) 0
-      (λ j k. omega (arith, polygon-few rem (polygonAt ps j .corners), all-at (held-once rem ps e) j noPolygon (omega arith))),
-)
 
 -- a polygon that does not hold the vertex
 pub not-held : (rem n : ℕ) {l : List ℕ} → count rem l ≡ 0 → All (λ c. c < n) l → All (Clear rem n) l

@@ -1,6 +1,7 @@
 -- `holes::test::push_neighbours` meets its contract: after j turns the ends on the first j sides are written, and the others are to come. Assumes nothing.
-use Prim.Native.Nat.{_+_, _-_}
+use Prim.Native.Nat.{_+_, _-_, _≤_}
 use borrow.Author.Needs.{needs}
+use lib.ListN.{length}
 use Rattle.rules.specs.Removal.{otherEnd, neighboursIn}
 use Rattle.records.specs.Values.{cornersOf}
 use Rattle.holes.proofs.Pushes.{Pushing, Piece, pushing-none, pushing-room, pushing-more, pushing-end, endsFrom, ends-all, ends-turn, ends-end}
@@ -22,6 +23,12 @@ turn-at c =
     let g = c .before .before .before .before .before .before .before .args in
     ends-turn (g .rem) (g .p) (c .before .before .before .before .before .loop .j) (search needs) (c .before .corner .ensures) (c .side-end .ensures)
 
+-- there is room for the first of these
+room-at : (c : tie.After-side-end Inv-loop μ-loop) → let g = c .before .before .before .before .before .before .before .args in
+    let at = c .before .before .before .before .before .loop in
+    g .at + at .k + length (otherEnd (g .rem) (c .before .corner .result) (c .side-end .result)) ≤ length (at .work)
+room-at c = pushing-room (c .before .before .before .before .before .loop .inv) (turn-at c) (search needs)
+
 loop-holds : tie.Need-loop-holds Inv-loop μ-loop
 loop-holds c =
     let g = c .before .args in
@@ -37,12 +44,10 @@ side-end-requires : tie.Need-side-end-requires Inv-loop μ-loop
 side-end-requires c κs = search needs
 
 push-end-requires : tie.Need-push-end-requires Inv-loop μ-loop
-push-end-requires c κs = pushing-room (c .before .before .before .before .before .loop .inv) (turn-at c)
+push-end-requires c κs = room-at c
 
 add-k : tie.Need-add-k Inv-loop μ-loop
-add-k c =
-    let t = c .before .before .before in
-    let r = pushing-room (t .before .before .before .before .before .loop .inv) (turn-at t) in search needs
+add-k c = let r = room-at (c .before .before .before) in search needs
 
 add-j : tie.Need-add-j Inv-loop μ-loop
 add-j c = search needs
@@ -53,7 +58,7 @@ loop-less c = search needs
 loop-again : tie.Need-loop-again Inv-loop μ-loop
 loop-again c =
     let t = c .before .before .before in
-    pushing-more (t .before .before .before .before .before .loop .inv) (turn-at t) (c .before .before .push-end .ensures)
+    pushing-more (t .before .before .before .before .before .loop .inv) (turn-at t) (room-at t) (c .before .before .push-end .ensures)
 
 same-length : tie.Need-same-length Inv-loop μ-loop
 same-length c = search needs
