@@ -13,6 +13,7 @@ pub mod Merge
 pub mod Around
 pub mod Walks
 pub mod Removal
+pub mod Left
 -- the checks, the contours, the whole build; R6 and R7
 pub mod Checks
 pub mod Contours

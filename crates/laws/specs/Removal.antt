@@ -286,7 +286,7 @@ one-or-two false = omega arith
 pub hole-room : (chain : List ChainPoint) → 4 ≤ length chain → (3 ≤ length (holeOf chain)) × (length (holeOf chain) ≤ length chain)
 hole-room chain h = omega (arith, hole-length chain (omega arith), one-or-two (isClosed chain))
 
-all-hole : {P : ChainPoint → Type 0} (chain : List ChainPoint) → All P chain → All P (holeOf chain)
+pub all-hole : {P : ChainPoint → Type 0} (chain : List ChainPoint) → All P chain → All P (holeOf chain)
 unfolding holeOf
 all-hole {P} chain a = go (isClosed chain)
   where
