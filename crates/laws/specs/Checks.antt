@@ -1,15 +1,15 @@
 -- Replies 1 to 6: what is known of a job that passes the checks, and its counts. Assumes nothing.
--- Key: `checked`: what is known of a job that passes; `T-far-below-V`: T is 0, or smaller than V by two.
-use Prim.Native.Nat.{ℕ, zero, suc, _+_, _-_, _≤_, _<_}
+-- Key: `checked`: what is known of a job that passes; `agreed`: what of one whose counts agree; `T-far-below-V`: T is 0, or smaller than V by two.
+use Prim.Native.Nat.{ℕ, zero, suc, _+_, _-_, _*_, _≤_, _<_}
 use native.Mathlib.Omega.{arith}
 use mathlib.Core.Path.{_≡_, refl}
 use mathlib.Core.Bool.{Bool, true, false, not, cond, _||_}
 use mathlib.Core.Logic.{_⊎_, inl, inr, ⊎-elim}
 use mathlib.Core.List.{List}
-use lib.Dec.{leb, ltb}
-use borrow.Author.Tests.{ltb-false, not-false, le-leb, lt-leb}
+use lib.Dec.{leb, ltb, eqb}
+use borrow.Author.Tests.{ltb-false, leb-true, eqb-true, not-false, le-leb, lt-leb}
 use lib.ListN.{length, getD}
-use Rattle.ints.specs.Bools.{or-left, or-right}
+use Rattle.ints.specs.Bools.{and-left, and-right, or-left, or-right}
 use Rattle.mem.specs.Loops.{over, run}
 use Rattle.mem.specs.Cases.{lt-or-le}
 use Rattle.rules.specs.declared.Vertex.{Vertex}
@@ -19,7 +19,7 @@ use Rattle.rules.specs.declared.Refusal.{Refusal}
 use Rattle.rules.specs.declared.Refusal.the-variants.{BadCornerLimit, CountsDisagree, HighCoordinate, BadFlag, TooManyVertices, ShortBuffer}
 use Rattle.rules.specs.Lists.{when, orElse}
 use Rattle.rules.specs.Plane.{onPlane, InGrid}
-use Rattle.rules.specs.Job.{Job, vertexAt, flagAt, sumOver, countAll, countV, countT}
+use Rattle.rules.specs.Job.{Job, jobStride, vertexAt, flagAt, sumOver, countAll, countV, countT}
 use Rattle.rules.specs.Checks.{Checked, passed, refusal, orNext, refuseIf, refuseAt, checkNvp, countsAgree, checkCounts, isHigh, firstHigh, firstBadFlag, checkV, leastLengths, firstShort, check}
 
 -- ---- a check that passes
@@ -33,7 +33,7 @@ unfolding orNext
 or-second passed b e = e
 or-second (refusal r) b e = let z : _≡_ {A = ℕ} 0 1 = cc in absurd (omega arith)
 
-not-refused : (b : Bool) (r : Refusal) → refuseIf b r ≡ passed → b ≡ false
+pub not-refused : (b : Bool) (r : Refusal) → refuseIf b r ≡ passed → b ≡ false
 unfolding refuseIf
 not-refused true r e = let z : _≡_ {A = ℕ} 0 1 = cc in absurd (omega arith)
 not-refused false r e = refl
@@ -118,6 +118,31 @@ checked j ls e₁ = record {
 
     n : (ltb (j .nvp) 3 || ltb 12 (j .nvp)) ≡ false
     n = not-refused (ltb (j .nvp) 3 || ltb 12 (j .nvp)) (BadCornerLimit (j .nvp)) (or-first (checkNvp j) _ e₁)
+
+-- what it means that the counts agree
+pub record Agreed (j : Job) : Type 0 where
+  pub regions : length (j .regions) ≡ length (j .lengths)
+  pub codes : length (j .codes) ≡ length (j .lengths)
+  pub numbers : length (j .numbers) ≡ countAll j * jobStride
+  pub contours : length (j .lengths) ≤ 65535
+
+pub agreed : (j : Job) → countsAgree j ≡ true → Agreed j
+unfolding countsAgree
+agreed j e = record {
+  regions = eqb-true _ _ (and-left regions _ e);
+  codes = eqb-true _ _ (and-left codes _ (and-right regions _ e));
+  numbers = eqb-true _ _ (and-left numbers _ (and-right codes _ (and-right regions _ e)));
+  contours = leb-true _ _ (and-right numbers _ (and-right codes _ (and-right regions _ e)));
+}
+  where
+    regions : Bool
+    regions = eqb (length (j .regions)) (length (j .lengths))
+
+    codes : Bool
+    codes = eqb (length (j .codes)) (length (j .lengths))
+
+    numbers : Bool
+    numbers = eqb (length (j .numbers)) (countAll j * jobStride)
 
 -- ---- the counts: what contour c adds to V and to T
 abbrev pub pointsIn : List ℕ → ℕ → ℕ
