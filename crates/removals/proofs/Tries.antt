@@ -9,7 +9,6 @@ use borrow.Author.Tests.{eq-eqb, ne-eqb}
 use lib.ListN.{length, getD, replicate}
 use Rattle.mem.specs.Slice.{view, blank-first, getD-view}
 use Rattle.mem.specs.Tab.{getD-blocks}
-use Rattle.mem.specs.Shelves.{length-shelved}
 use Rattle.mem.specs.Zeros.{no-words}
 use Rattle.rules.specs.Mesh.{Mesh, noMesh}
 use Rattle.rules.specs.Removal.{Removal, goes, removeVertex, removeFrom, removeAll, canRemove, gone, noEars, removed, stuckAt}
@@ -29,10 +28,10 @@ use Rattle.removals.specs.declared.site.Counts.{Counts}
 use Rattle.removals.specs.declared.remove.Removed.{Removed}
 use Rattle.removals.specs.declared.remove.Removed.the-variants.{Gone, NoEars}
 use Rattle.removals.specs.declared.all.Removals.the-variants as Answer
-use Rattle.removals.specs.Site.{meshAt, scratchRoom, standing, meshIn, Stands}
+use Rattle.removals.specs.Site.{meshAt, scratchRoom, meshIn, Stands}
 use Rattle.removals.specs.Removing.{RemoveReady, removedTo, meshAfter, countsOf, triedTo, meshLeft}
 use Rattle.removals.specs.Stages.{all-scratch}
-use Rattle.removals.specs.Standing.{Suits, meshIn-again, mesh-read, stands-of}
+use Rattle.removals.specs.Standing.{Suits, length-in, meshIn-again, mesh-read, stands-of}
 use Rattle.removals.proofs.Opens.{stands-small, stands-long, stands-few, stands-stage}
 
 -- ---- one vertex
@@ -126,10 +125,6 @@ suits-none r = record {
   v-few = r .v-few;
   t-few = r .t-few;
 }
-
-length-in : (w : List ℕ) (s : Site) (m : Mesh) → length (meshIn w s m) ≡ length w
-unfolding meshIn standing
-length-in w s m = length-shelved w (s .vertices) _ (s .polygons) _ (s .scratch) _
 
 pub left-none : {w : List ℕ} {s : Site} {n : Counts} {nvp : ℕ} → Stands w s n nvp → Left w s n nvp w n 0
 left-none {w} {s} {n} {nvp} r = record {

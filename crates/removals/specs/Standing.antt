@@ -6,7 +6,7 @@ use Prim.Native.Nat.{ℕ, _*_, _^_, _≤_, _<_}
 use native.Mathlib.Omega.{arith}
 use lib.ListN.{length}
 use Rattle.mem.specs.Packed.{Every}
-use Rattle.mem.specs.Shelves.{shelved-again}
+use Rattle.mem.specs.Shelves.{length-shelved, shelved-again}
 use Rattle.mem.specs.Zeros.{withZeros, length-zeros}
 use Rattle.rules.specs.Mesh.{Polygon, noPolygon, Mesh}
 use Rattle.laws.specs.Lists.{All, all-imp, every-of-all}
@@ -24,6 +24,10 @@ use Rattle.removals.specs.Stages.{Stage, stage-fits, vertices-read, mark
 
 pub small-good : {k nvp : ℕ} {ps : List Polygon} → nvp ≤ mostCorners → All (Good (Below k) nvp) ps → Every Small noPolygon ps
 small-good {k} {nvp} h a = every-of-all Small noPolygon (omega arith) (all-imp (λ p (g : Good (Below k) nvp p). omega (arith, g .short, h)) a)
+
+pub length-in : (w : List ℕ) (s : Site) (m : Mesh) → length (meshIn w s m) ≡ length w
+unfolding meshIn standing
+length-in w s m = length-shelved w (s .vertices) _ (s .polygons) _ (s .scratch) _
 
 -- polygons of few corners are polygons of more
 good-wider : {k nvp : ℕ} {ps : List Polygon} → nvp ≤ mostCorners → All (Good (Below k) nvp) ps → All (Good (Below k) mostCorners) ps
@@ -56,10 +60,10 @@ module _ {s : Site} {nvp : ℕ} {m : Mesh} (k : Suits s nvp m) where
   suits-small : Every Small noPolygon (m .polygons)
   suits-small = small-good (k .most) (k .sound .good)
 
-  size-vertices : length (vertexRecords (m .vertices) (m .marks)) ≤ s .v * vertexSize
+  pub size-vertices : length (vertexRecords (m .vertices) (m .marks)) ≤ s .v * vertexSize
   size-vertices = omega (arith, length-vertex-records (m .vertices) (m .marks), k .vertices)
 
-  size-polygons : length (polygonRecords (m .polygons)) ≤ s .t * polygonSize
+  pub size-polygons : length (polygonRecords (m .polygons)) ≤ s .t * polygonSize
   size-polygons =
       let few = polygons-few (all-imp (λ p (g : Good (Below (length (m .vertices))) nvp p). g .long) (k .sound .good)) in
       omega (arith, length-records (m .polygons) suits-small, k .spares)
