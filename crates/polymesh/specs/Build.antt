@@ -1,0 +1,34 @@
+-- A job that has passed the checks is built: what that asks for, and what it leaves. Definitions only.
+use mathlib.Core.Path.{_≡_}
+use mathlib.Core.List.{List}
+use Prim.Native.Nat.{ℕ, _*_, _≤_}
+use lib.ListN.{length}
+use Rattle.rules.specs.Mesh.{Mesh}
+use Rattle.rules.specs.Removal.{Removal}
+use Rattle.rules.specs.Job.{Job}
+use Rattle.rules.specs.Checks.{Lent, vertexStride}
+use Rattle.rules.specs.Build.{built, replyOf}
+use Rattle.rules.specs.Exits.{exitOf}
+use Rattle.rules.specs.Widths.{Fits}
+use Rattle.rules.specs.declared.Reply.{Reply}
+use Rattle.polymesh.specs.Gather.{Ready, comesTo}
+
+-- there is room for v vertices and t polygons in the six buffers
+pub record Room (v t nvp : ℕ) (b : Lent) : Type 0 where
+  pub vertices : v * vertexStride ≤ length (b .vertices)
+  pub polygons : t * nvp ≤ length (b .polygons)
+  pub neighbours : t * nvp ≤ length (b .neighbours)
+  pub regions : t ≤ length (b .regions)
+  pub codes : t ≤ length (b .codes)
+  pub flags : t ≤ length (b .flags)
+
+-- the job j passed the checks, its numbers fit their words, and b's work buffer has just the words that a build of it uses
+pub record BuildReady (v t : ℕ) (j : Job) (b : Lent) : Type 0 where
+  pub ready : Ready (b .work) v t j
+  pub room : Room v t (j .nvp) b
+  pub fits : (m : Mesh) (links : List (List ℕ)) (log : List Removal) → comesTo j ≡ built m links log → Fits m links
+
+-- r is the build's reply, and the buffers b became u, what the rules say that they hold at the end
+pub record BuiltTo (j : Job) (b u : Lent) (r : Reply) : Type 0 where
+  pub answer : r ≡ replyOf (comesTo j)
+  pub exit : u ≡ exitOf j b (comesTo j)

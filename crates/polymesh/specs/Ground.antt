@@ -1,0 +1,62 @@
+-- Demand 3, of the numbers in the lent buffers: for every call that replies 0, the polygons as they are stored, their corners up to the first 65,535, over the
+-- stored vertices, have the contours' area, less what open removals took. It is a corollary of the contract of `into_polygon_mesh` alone: r and u are what that
+-- contract says of the answer and of the buffers at exit. Assumes nothing.
+-- Key: `ground-kept`.
+use mathlib.Core.Path.{_≡_, refl, sym, ap, ap₂, subst, _∙_}
+use mathlib.Core.List.{List}
+use Prim.Native.Nat.{ℕ}
+use lib.ListN.{length}
+use lib.IntN.{ℤ, _-ℤ_}
+use Rattle.rules.specs.Mesh.{Mesh}
+use Rattle.rules.specs.Removal.{Removal}
+use Rattle.rules.specs.Job.{Job}
+use Rattle.rules.specs.Checks.{Lent}
+use Rattle.rules.specs.Build.{Outcome, refused, built, outcome, replyOf, answer}
+use Rattle.rules.specs.Exits.{exits, Stored, decoded}
+use Rattle.rules.specs.Areas.{sumOf, polygonArea, meshArea, jobArea, areaTaken}
+use Rattle.rules.specs.declared.Header.{Header}
+use Rattle.rules.specs.declared.Answer.{Answer}
+use Rattle.rules.specs.declared.Reply.{Reply}
+use Rattle.rules.specs.declared.Reply.the-variants.{Built, Refused}
+use Rattle.laws.specs.Laws.{area-law}
+use Rattle.laws.specs.Exits.{reads-back}
+
+-- the doubled area of the polygons that are stored
+abbrev pub storedArea : Stored → ℤ
+storedArea s = sumOf (polygonArea (s .vertices)) (s .polygons)
+
+-- the mesh and the log of the removals that the job comes to, and the area of what stands in u, read as n polygons and k vertices
+pub record GroundKept (j : Job) (b u : Lent) (n k : ℕ) : Type 0 where
+  pub mesh : Mesh
+  pub links : List (List ℕ)
+  pub log : List Removal
+  pub comes : outcome j b ≡ built mesh links log
+  pub area : storedArea (decoded (j .nvp) n k u) ≡ jobArea j -ℤ sumOf areaTaken log
+
+IsBuilt : Reply → Type 0
+IsBuilt (Built n k) = Unit
+IsBuilt (Refused r) = ⊥
+
+area-of : (m : Mesh) (ls : List (List ℕ)) → storedArea (record { vertices = m .vertices; polygons = m .polygons; links = ls }) ≡ meshArea m
+unfolding meshArea
+area-of m ls = refl
+
+from-outcome : (j : Job) (b u : Lent) (n k : ℕ) (o : Outcome) → outcome j b ≡ o → Built n k ≡ replyOf o → u ≡ exits j b → GroundKept j b u n k
+unfolding replyOf IsBuilt
+from-outcome j b u n k (refused r) q e d = absurd (subst IsBuilt e tt)
+from-outcome j b u n k (built m ls log) q e d =
+    let a : n ≡ length (m .polygons) = cc in
+    let c : k ≡ length (m .vertices) = cc in
+    record {
+      mesh = m;
+      links = ls;
+      log = log;
+      comes = q;
+      area = ap storedArea (ap₂ (λ (x y : ℕ). decoded (j .nvp) x y u) a c ∙ ap (decoded (j .nvp) (length (m .polygons)) (length (m .vertices))) d
+          ∙ reads-back j b m ls log q) ∙ area-of m ls ∙ area-law j b m ls log q;
+    }
+
+pub ground-kept : (h : Header) (j : Job) (b : Lent) (r : Answer) (u : Lent) → r ≡ answer h j b → u ≡ exits j b
+    → (n k : ℕ) → r .reply ≡ Built n k → GroundKept j b u n k
+unfolding answer
+ground-kept h j b r u e d n k q = from-outcome j b u n k (outcome j b) refl (sym q ∙ ap (λ (a : Answer). a .reply) e) d
