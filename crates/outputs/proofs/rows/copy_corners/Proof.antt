@@ -7,10 +7,6 @@ use Rattle.outputs.proofs.Copies.{CornersCopied, corners-fit, corner-co
 use borrow.Author.Needs.{needs}
 use Rattle.outputs.proofs.rows.copy_corners.Statement.{statement}
 use Rattle.outputs.proofs.rows.copy_corners.Tie as tie
-use Rattle.outputs.proofs.rows.copy_corners.Reads as reads
-use Rattle.outputs.proofs.rows.copy_corners.Lts as lts
-use Rattle.outputs.proofs.rows.put_corners.Reads as put-corners-reads
-use Rattle.records.proofs.polygon.load_at.Reads as load-at-reads
 
 abbrev Inv-loop : tie.InvT-loop
 Inv-loop work o np nvp out₀ i₀ out i = CornersCopied work o np nvp out₀ out i

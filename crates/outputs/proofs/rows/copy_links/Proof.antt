@@ -6,9 +6,6 @@ use Rattle.outputs.proofs.Copies.{LinksCopied, links-fit, link-copied, 
 use borrow.Author.Needs.{needs}
 use Rattle.outputs.proofs.rows.copy_links.Statement.{statement}
 use Rattle.outputs.proofs.rows.copy_links.Tie as tie
-use Rattle.outputs.proofs.rows.copy_links.Reads as reads
-use Rattle.outputs.proofs.rows.copy_links.Lts as lts
-use Rattle.outputs.proofs.rows.put_links.Reads as put-links-reads
 
 abbrev Inv-loop : tie.InvT-loop
 Inv-loop work o np lo nvp out₀ i₀ out i = LinksCopied work o np lo nvp out₀ out i

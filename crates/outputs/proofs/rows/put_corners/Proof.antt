@@ -10,8 +10,6 @@ use Rattle.outputs.proofs.Words.{corners-row}
 use borrow.Author.Needs.{needs}
 use Rattle.outputs.proofs.rows.put_corners.Statement.{statement}
 use Rattle.outputs.proofs.rows.put_corners.Tie as tie
-use Rattle.outputs.proofs.rows.put_corners.Reads as reads
-use Rattle.outputs.proofs.rows.put_corners.Lts as lts
 
 abbrev Inv-loop : tie.InvT-loop
 Inv-loop out₀ to n p k₀ out k = Filled out₀ to (λ j. getD (p .corners) j 0) n out k

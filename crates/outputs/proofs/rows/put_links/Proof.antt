@@ -8,8 +8,6 @@ use Rattle.mem.specs.Tab.{Filled, filled-none, filled-more, filled-all, tab-vie
 use borrow.Author.Needs.{needs}
 use Rattle.outputs.proofs.rows.put_links.Statement.{statement}
 use Rattle.outputs.proofs.rows.put_links.Tie as tie
-use Rattle.outputs.proofs.rows.put_links.Reads as reads
-use Rattle.outputs.proofs.rows.put_links.Lts as lts
 
 abbrev Inv-loop : tie.InvT-loop
 Inv-loop work at n out₀ to j₀ out j = Filled out₀ to (λ k. getD work (at + k) 0) n out j

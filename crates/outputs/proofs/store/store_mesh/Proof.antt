@@ -2,14 +2,6 @@
 use borrow.Author.Needs.{needs}
 use Rattle.outputs.proofs.store.store_mesh.Statement.{statement}
 use Rattle.outputs.proofs.store.store_mesh.Tie as tie
-use Rattle.outputs.proofs.store.store_mesh.Reads as reads
-use Rattle.outputs.proofs.store.store_mesh.Lts as lts
-use Rattle.outputs.proofs.rows.copy_corners.Reads as copy-corners-reads
-use Rattle.outputs.proofs.rows.copy_links.Reads as copy-links-reads
-use Rattle.outputs.proofs.tags.clear_flags.Reads as clear-flags-reads
-use Rattle.outputs.proofs.tags.copy_codes.Reads as copy-codes-reads
-use Rattle.outputs.proofs.tags.copy_regions.Reads as copy-regions-reads
-use Rattle.outputs.proofs.vertices.copy_vertices.Reads as copy-vertices-reads
 
 -- src/store.rt:34:5
 copy-vertices-requires : tie.Need-copy-vertices-requires

@@ -7,8 +7,6 @@ use Rattle.mem.specs.Tab.{Filled, filled-none, filled-more, filled-all, tab-con
 use borrow.Author.Needs.{needs}
 use Rattle.outputs.proofs.tags.clear_flags.Statement.{statement}
 use Rattle.outputs.proofs.tags.clear_flags.Tie as tie
-use Rattle.outputs.proofs.tags.clear_flags.Reads as reads
-use Rattle.outputs.proofs.tags.clear_flags.Lts as lts
 
 abbrev Inv-loop : tie.InvT-loop
 Inv-loop out₀ np k₀ out k = Filled out₀ 0 (λ j. 0) np out k

@@ -10,8 +10,6 @@ use Rattle.outputs.proofs.Words.{code-is, code-narrow, each-polygon}
 use borrow.Author.Needs.{needs}
 use Rattle.outputs.proofs.tags.copy_codes.Statement.{statement}
 use Rattle.outputs.proofs.tags.copy_codes.Tie as tie
-use Rattle.outputs.proofs.tags.copy_codes.Reads as reads
-use Rattle.outputs.proofs.tags.copy_codes.Lts as lts
 
 abbrev Inv-loop : tie.InvT-loop
 Inv-loop work o np out₀ i₀ out i = Filled out₀ 0 (λ j. polygonAt (polygonsAt work o np) j .code) np out i

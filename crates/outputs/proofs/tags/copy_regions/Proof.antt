@@ -10,8 +10,6 @@ use Rattle.outputs.proofs.Words.{region-is, region-narrow, each-polygon
 use borrow.Author.Needs.{needs}
 use Rattle.outputs.proofs.tags.copy_regions.Statement.{statement}
 use Rattle.outputs.proofs.tags.copy_regions.Tie as tie
-use Rattle.outputs.proofs.tags.copy_regions.Reads as reads
-use Rattle.outputs.proofs.tags.copy_regions.Lts as lts
 
 abbrev Inv-loop : tie.InvT-loop
 Inv-loop work o np out₀ i₀ out i = Filled out₀ 0 (λ j. polygonAt (polygonsAt work o np) j .region) np out i

@@ -8,8 +8,6 @@ use Rattle.outputs.proofs.Copies.{VerticesCopied, vertex-copied, vertic
 use borrow.Author.Needs.{needs}
 use Rattle.outputs.proofs.vertices.copy_vertices.Statement.{statement}
 use Rattle.outputs.proofs.vertices.copy_vertices.Tie as tie
-use Rattle.outputs.proofs.vertices.copy_vertices.Reads as reads
-use Rattle.outputs.proofs.vertices.copy_vertices.Lts as lts
 
 abbrev Inv-loop : tie.InvT-loop
 Inv-loop work vo nv out₀ k₀ out k = VerticesCopied work vo nv out₀ out k
