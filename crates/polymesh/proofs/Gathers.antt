@@ -1,5 +1,5 @@
 -- What the contours and the removals come to, case by case. Assumes nothing.
--- Key: `no-ear-in-contour`, `no-ear-in-hole`, `all-tried`.
+-- Key: `no-ear-in-contour`, `stuck-came`, `left-came`.
 use mathlib.Core.Path.{_≡_, refl, sym, ap, ap₂, subst, _∙_}
 use mathlib.Core.List.{List, []}
 use Prim.Native.Nat.{ℕ}
@@ -148,7 +148,7 @@ module _ {u₀ : List ℕ} {v t : ℕ} {j : Job} (r : Ready u₀ v t j) where
     balanced : Balanced (j .nvp) (jobArea j) (countT j) (countV j) m []
     balanced = all-added j (r .ls) m (r .passed) e
 
-    pub try-ready : {n : Counts} → n ≡ countsOf m → Stands u₁ (siteOf v t) n (j .nvp)
+    try-ready : {n : Counts} → n ≡ countsOf m → Stands u₁ (siteOf v t) n (j .nvp)
     try-ready q = rw q (ground-stands ready-sized (suits balanced) d)
 
     try-read : {n : Counts} → n ≡ countsOf m → meshAt u₁ (siteOf v t) n ≡ m
@@ -167,7 +167,7 @@ module _ {u₀ : List ℕ} {v t : ℕ} {j : Job} (r : Ready u₀ v t j) where
       comes x y = ap (cleared j) e ∙ ap (linked j) y
 
       -- a hole has no ear
-      pub no-ear-in-hole : {i : ℕ} → Tried.Stuck i ≡ triedTo (removeAll (j .nvp) (meshAt u₁ (siteOf v t) n)) → MeshedTo u₂ v t j (Refused (NoEarInHole i))
+      no-ear-in-hole : {i : ℕ} → Tried.Stuck i ≡ triedTo (removeAll (j .nvp) (meshAt u₁ (siteOf v t) n)) → MeshedTo u₂ v t j (Refused (NoEarInHole i))
       unfolding linked replyOf
       no-ear-in-hole {i} a =
           let y = comes (stuckAt i) (was-stuck (removeAll (j .nvp) m) i (rw (try-read q) at a)) in
@@ -200,7 +200,7 @@ module _ {u₀ : List ℕ} {v t : ℕ} {j : Job} (r : Ready u₀ v t j) where
         same-mesh : (x : Mesh) (ls ks : List (List ℕ)) (log : List Removal) → built o ls (left .log) ≡ built x ks log → o ≡ x
         same-mesh x ls ks log d = cc
 
-        pub all-tried : MeshedTo u₂ v t j (Built (p .polygons) (p .vertices))
+        all-tried : MeshedTo u₂ v t j (Built (p .polygons) (p .vertices))
         unfolding linked replyOf o
         all-tried =
             let y = comes (removed (left .mesh) (left .log)) (left .is) in
@@ -209,3 +209,15 @@ module _ {u₀ : List ℕ} {v t : ℕ} {j : Job} (r : Ready u₀ v t j) where
               size = long-now;
               mesh = λ x ks log d. subst (Meshed u₂ v t (j .nvp)) (same-mesh x _ ks log (sym y ∙ d)) left-meshed;
             }
+
+  -- the same, of a mesh that came of the contours: x says which
+  module _ {z : Contours} (y : addAll j ≡ z) {u₁ : List ℕ} {n : Counts} (x : Came u₁ v t z n) where
+    pub try-came : Stands u₁ (siteOf v t) n (j .nvp)
+    try-came = try-ready (y ∙ x .is) (x .words) (x .counts)
+
+    module _ {u₂ : List ℕ} (f : u₂ ≡ meshIn u₁ (siteOf v t) (meshLeft (removeAll (j .nvp) (meshAt u₁ (siteOf v t) n)))) where
+      pub stuck-came : {i : ℕ} → Tried.Stuck i ≡ triedTo (removeAll (j .nvp) (meshAt u₁ (siteOf v t) n)) → MeshedTo u₂ v t j (Refused (NoEarInHole i))
+      stuck-came a = no-ear-in-hole (y ∙ x .is) (x .words) (x .counts) f a
+
+      pub left-came : {p : Counts} → Tried.Left p ≡ triedTo (removeAll (j .nvp) (meshAt u₁ (siteOf v t) n)) → MeshedTo u₂ v t j (Built (p .polygons) (p .vertices))
+      left-came a = all-tried (y ∙ x .is) (x .words) (x .counts) f a

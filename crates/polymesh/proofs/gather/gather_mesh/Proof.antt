@@ -1,7 +1,7 @@
 -- `polymesh::gather::gather_mesh` meets its contract: the mesh that the contours leave is what the removals ask for, and each way out is one of the rules'. Assumes nothing.
-use mathlib.Core.Path.{_∙_}
+use mathlib.Core.Path.{refl, _∙_}
 use Rattle.contours.specs.Gathering.{same-contours}
-use Rattle.polymesh.proofs.Gathers.{ready-sized, gather-ready, came, was-no-ear, no-ear-in-contour, try-ready, no-ear-in-hole, all-tried}
+use Rattle.polymesh.proofs.Gathers.{ready-sized, gather-ready, came, was-no-ear, no-ear-in-contour, try-came, stuck-came, left-came}
 use borrow.Author.Needs.{needs}
 use Rattle.polymesh.proofs.gather.gather_mesh.Statement.{statement}
 use Rattle.polymesh.proofs.gather.gather_mesh.Tie as tie
@@ -37,7 +37,7 @@ remove-all-requires c κs =
     let r = c .before .before .before .before .before .before .before .before .before .before .before .before .before .before .before .before .before .before .before .pre 0 0 0 in
     let a = c .before .before .before .before .before .before .before .add-contours .ensures in
     let x = came r (c .before .before .before .before .before .before .before .before .before .before .before .before .fill .kept .0) (c .before .before .before .before .before .before .before .before .ground .ensures) (a .1) (rw (c .before .before .before .nv .given .1) at (a .0)) in
-    rw (c .site .ensures) (try-ready r (x .is) (x .words) (x .counts))
+    rw (c .site .ensures) (try-came r refl x)
 
 enum-known-i : tie.Need-enum-known-i
 enum-known-i c = search needs
@@ -51,7 +51,7 @@ returns-2 c = λ w h b.
     let a = c .before .before .before .before .before .before .before .before .before .before .before .before .before .add-contours .ensures in
     let x = came (c .before .before .before .before .before .before .before .before .before .before .before .before .before .before .before .before .before .before .before .before .before .before .before .before .before .pre 0 0 0) (c .before .before .before .before .before .before .before .before .before .before .before .before .before .before .before .before .before .before .fill .kept .0) (c .before .before .before .before .before .before .before .before .before .before .before .before .before .before .ground .ensures) (a .1) (rw (c .before .before .before .before .before .before .before .before .before .nv .given .1) at (a .0)) in
     let d = c .before .before .before .before .before .remove-all .ensures in
-    no-ear-in-hole r (same-contours _ w h b _ _ _ _ ∙ x .is) (x .words) (x .counts) (rw (c .before .before .before .before .before .before .site .ensures) at (d .1)) (rw (c .before .i .given .1, c .before .before .before .before .before .before .site .ensures) at (d .0))
+    stuck-came r (same-contours _ w h b _ _ _ _) x (rw (c .before .before .before .before .before .before .site .ensures) at (d .1)) (rw (c .before .i .given .1, c .before .before .before .before .before .before .site .ensures) at (d .0))
 
 enum-known-c-2 : tie.Need-enum-known-c-2
 enum-known-c-2 c = search needs
@@ -65,7 +65,7 @@ returns-3 c = λ w h b.
     let a = c .before .before .before .before .before .before .before .before .before .before .before .before .before .add-contours .ensures in
     let x = came (c .before .before .before .before .before .before .before .before .before .before .before .before .before .before .before .before .before .before .before .before .before .before .before .before .before .pre 0 0 0) (c .before .before .before .before .before .before .before .before .before .before .before .before .before .before .before .before .before .before .fill .kept .0) (c .before .before .before .before .before .before .before .before .before .before .before .before .before .before .ground .ensures) (a .1) (rw (c .before .before .before .before .before .before .before .before .before .nv .given .1) at (a .0)) in
     let d = c .before .before .before .before .before .remove-all .ensures in
-    all-tried r (same-contours _ w h b _ _ _ _ ∙ x .is) (x .words) (x .counts) (rw (c .before .before .before .before .before .before .site .ensures) at (d .1)) (rw (c .before .c2 .given .1, c .before .before .before .before .before .before .site .ensures) at (d .0))
+    left-came r (same-contours _ w h b _ _ _ _) x (rw (c .before .before .before .before .before .before .site .ensures) at (d .1)) (rw (c .before .c2 .given .1, c .before .before .before .before .before .before .site .ensures) at (d .0))
 
 pub gather-mesh-spec : {M : Type 1} → statement M
 gather-mesh-spec =
