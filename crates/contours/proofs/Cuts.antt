@@ -1,35 +1,27 @@
 -- The places of a contour laid out, and cut: a loop writes one place after the other, and what is read back from their words are the places. Assumes nothing.
 use mathlib.Core.Path.{_≡_, refl, sym, ap, _∙_}
 use mathlib.Core.List.{List, [], _∷_, _++_}
-use Prim.Native.Nat.{ℕ, zero, suc, _+_, _-_, _*_, _/_, _^_, _≤_, _<_}
+use Prim.Native.Nat.{ℕ, _+_, _-_, _*_, _^_, _≤_, _<_}
 use native.Mathlib.Omega.{arith}
 use lib.ListN.{length, take, drop, getD, set, replicate, length-append, length-replicate, length-map}
-use lib.Seq.{ext-getD, take-take}
-use Rattle.mem.specs.Slice.{view, splice, length-splice, splice-over, splice-append, view-same, setEach, stored-each, length-view}
-use Rattle.mem.specs.Tab.{tab, length-tab, getD-tab}
+use lib.Seq.{take-take}
+use Rattle.mem.specs.Slice.{view, splice, length-splice, splice-over, splice-append, view-same, length-view}
 use Rattle.mem.specs.Packed.{Every, every-of, packed, length-packed, unpacked, Laid, laid-more, laid-all}
 use Rattle.rules.specs.Plane.{origin, onPlane, InGrid}
 use Rattle.rules.specs.Weld.{noVertex}
 use Rattle.rules.specs.Job.{vertexAt, contourVertices}
 use Rattle.rules.specs.Ears.{Ears, done, stuck, triangulate}
 use Rattle.rules.specs.declared.Point.{Point}
-use Rattle.laws.specs.Lists.{All, all-of, all-imp, all-head, all-tail, every-of-all, getD-map-in}
+use Rattle.laws.specs.Lists.{All, all-of, all-imp, every-of-all, getD-map-in}
 use Rattle.laws.specs.Ears.{Triangle, triangle, Triangulated, triangulated}
 use Rattle.laws.specs.Contours.{length-contour, getD-contour}
-use Rattle.plane.specs.Points.{pointOf, pointsIn}
-use Rattle.ears.specs.Part.{Laid as EarsLaid, pointsOf, answerOf, cutIn}
-use Rattle.ears.specs.declared.cut.Triangulation.the-variants.{Done, Stuck}
+use Rattle.plane.specs.Points.{pointsIn}
+use Rattle.ears.specs.Part.{Laid as EarsLaid, pointsOf, cutIn}
 use Rattle.holes.specs.Fill.{placeWords, cutWords, trianglesAt}
+use Rattle.holes.specs.Places.{two, put-two, placed-words, points-back, grid-words}
 use Rattle.contours.specs.Cutting.{placesIn, LayReady, CutReady}
 
 -- ---- places and their words
-
-two : (p : Point) → length (placeWords p) ≡ 2
-unfolding placeWords
-two p = refl
-
-pub placed-words : (ps : List Point) → length (packed placeWords ps) ≡ length ps * 2
-placed-words ps = length-packed placeWords 2 (λ p. Unit) origin (λ p t. two p) ps (every-of (λ p. Unit) origin ps (λ i. tt))
 
 pub length-places : (ns : List ℕ) (first n : ℕ) → length (placesIn ns first n) ≡ n
 length-places ns first n = length-map (contourVertices ns first n) onPlane ∙ length-contour ns first n
@@ -37,35 +29,6 @@ length-places ns first n = length-map (contourVertices ns first n) onPlane ∙ l
 place-is : (ns : List ℕ) (first n k : ℕ) → k < n → getD (placesIn ns first n) k origin ≡ onPlane (vertexAt ns (first + k))
 place-is ns first n k h =
     getD-map-in onPlane (contourVertices ns first n) k noVertex origin (rw (length-contour ns first n) h) ∙ ap onPlane (getD-contour ns first n k h)
-
-put-two : (w : List ℕ) (at : ℕ) (p : Point) → set (set w at (p .x)) (at + 1) (p .z) ≡ splice w at (placeWords p)
-unfolding placeWords setEach
-put-two w at p = stored-each w at (p .x) (p .z ∷ [])
-
--- a place's two words
-place-at : (ps : List Point) (k : ℕ) → k < length ps → pointOf (packed placeWords ps) k ≡ getD ps k origin
-unfolding pointOf packed placeWords
-place-at [] k h = absurd (omega arith)
-place-at (p ∷ ps) zero h = refl
-place-at (p ∷ ps) (suc k) h =
-    let e : suc k * 2 ≡ suc (suc (k * 2)) = omega arith in
-    let f : suc (suc (k * 2)) + 1 ≡ suc (suc (k * 2 + 1)) = omega arith in
-    rw (e, f) (place-at ps k (omega arith))
-
--- places read back from their words
-points-back : (ps : List Point) → pointsIn (packed placeWords ps) ≡ ps
-unfolding pointsIn
-points-back ps =
-    let n : length (packed placeWords ps) / 2 ≡ length ps = omega (arith, placed-words ps) in
-    rw n (ext-getD origin (tab (pointOf (packed placeWords ps)) (length ps)) ps (length-tab _ (length ps))
-    (λ k a. let h : k < length ps = rw length-tab at a in getD-tab _ (length ps) k origin h ∙ place-at ps k h))
-
-grid-words : (ps : List Point) → All InGrid ps → (k : ℕ) → getD (packed placeWords ps) k 0 ≤ 32767
-unfolding packed placeWords
-grid-words [] a k = omega arith
-grid-words (p ∷ ps) a zero = all-head a .x-small
-grid-words (p ∷ ps) a (suc zero) = all-head a .z-small
-grid-words (p ∷ ps) a (suc (suc k)) = grid-words ps (all-tail a) k
 
 -- ---- the places are laid out
 
@@ -177,20 +140,3 @@ module _ (ns : List ℕ) (first n : ℕ) (some : 3 ≤ n) (few : n < 2 ^ 28) whe
   unfolding cutWords Q
   long-cut (done ts) d = simp (length-append, length-replicate) (omega (arith, long-Q, long-triangles ts d, triangle-count ts d))
   long-cut (stuck k) d = simp (length-append, length-replicate) (omega (arith, long-Q))
-
--- ---- the answer of the cutting
-
-pub record WasDone (t : Ears) (k : ℕ) : Type 0 where
-  pub ts : List (List ℕ)
-  pub is : t ≡ done ts
-  pub count : k ≡ length ts
-
-pub was-done : (t : Ears) (k : ℕ) → Done k ≡ answerOf t → WasDone t k
-unfolding answerOf
-was-done (done ts) k e = record { ts = ts; is = refl; count = cc }
-was-done (stuck j) k e = let z : _≡_ {A = ℕ} 0 1 = cc in absurd (omega arith)
-
-pub was-stuck : (t : Ears) (k : ℕ) → Stuck k ≡ answerOf t → t ≡ stuck k
-unfolding answerOf
-was-stuck (done ts) k e = let z : _≡_ {A = ℕ} 0 1 = cc in absurd (omega arith)
-was-stuck (stuck j) k e = cc

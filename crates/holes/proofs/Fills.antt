@@ -3,16 +3,16 @@
 use mathlib.Core.Path.{_≡_, refl, sym, ap, _∙_}
 use mathlib.Core.Bool.{Bool, _&&_, cond}
 use mathlib.Core.List.{List, [], _∷_, _++_, map}
-use Prim.Native.Nat.{ℕ, zero, suc, _+_, _-_, _*_, _/_, _≤_, _<_}
+use Prim.Native.Nat.{ℕ, _+_, _-_, _*_, _≤_, _<_}
 use native.Mathlib.Omega.{arith}
 use lib.Dec.{eqb}
 use lib.ListN.{length, take, drop, getD, set, replicate, length-append, length-replicate, length-map}
-use Rattle.mem.specs.Slice.{view, splice, length-splice, splice-over, view-same, setEach, stored-each, length-view}
-use lib.Seq.{ext-getD, length-take-le, take-take}
-use Rattle.plane.specs.Points.{pointOf, pointsIn}
-use Rattle.mem.specs.Tab.{tab, length-tab, getD-tab, length-blocks, getD-blocks, blocks-after, blocks-before}
+use Rattle.mem.specs.Slice.{view, splice, length-splice, splice-over, view-same, length-view}
+use lib.Seq.{length-take-le, take-take}
+use Rattle.plane.specs.Points.{pointsIn}
+use Rattle.mem.specs.Tab.{tab, length-blocks, getD-blocks, blocks-after, blocks-before}
 use Rattle.records.specs.Blanks.{blanks-small}
-use Rattle.mem.specs.Packed.{Every, every-of, every-append, every-map, every-take, packed, length-packed, Laid, laid-more, laid-all}
+use Rattle.mem.specs.Packed.{Every, every-of, every-append, every-map, every-take, packed, Laid, laid-more, laid-all}
 use Rattle.rules.specs.Plane.{InGrid, origin}
 use Rattle.rules.specs.Mesh.{Polygon, noPolygon, placeOf}
 use Rattle.rules.specs.Exits.{padded}
@@ -23,13 +23,14 @@ use Rattle.rules.specs.declared.ChainPoint.{ChainPoint}
 use Rattle.laws.specs.Ears.{Triangle, triangle}
 use Rattle.laws.specs.Merge.{Good, Below}
 use Rattle.laws.specs.Removal.{good-triangle, length-places}
-use Rattle.laws.specs.Lists.{All, none, more, all-imp, every-of-all, all-map, all-at, all-head, all-tail, getD-map-in}
+use Rattle.laws.specs.Lists.{All, none, more, all-imp, every-of-all, all-map, all-at, getD-map-in}
 use Rattle.records.specs.Layout.{vertexSize, pointSize, polygonSize, vertexIn, pointIn, verticesAt, pointsAt, polygonsAt, polygonWords, polygonRecords, Small, Placed}
 use Rattle.records.specs.Values.{toPoly, polyWords, Loaded}
 use Rattle.records.specs.Polygons.{stored-words, length-words, length-records, polygons-are, tidy-of}
 use Rattle.polys.specs.Ready.{MergeReady, MergedTo}
 use Rattle.records.specs.Fixed.{point-fixed, fixed-count, wordAt, words-view}
 use Rattle.records.specs.declared.polygon.Poly.{Poly}
+use Rattle.holes.specs.Places.{two, put-two, placed-words, points-back, grid-words}
 use Rattle.holes.specs.Fill.{placeWords, LayReady, CutReady, cutWords, trianglesAt, ShapeReady, MeshReady, holePolygons, MeshedTo}
 use Rattle.rules.specs.Ears.{Ears, done, stuck, triangulate}
 use Rattle.ears.specs.Part.{Laid as EarsLaid, pointsOf, cutIn}
@@ -38,14 +39,6 @@ use Rattle.ears.specs.Part.{Laid as EarsLaid, pointsOf, cutIn}
 
 abbrev pub Laying : (v : List ℕ) (vo nv q m po : ℕ) → List ℕ → ℕ → Type 0
 Laying v vo nv q m po w k = Laid placeWords v po (placesOf (verticesAt v vo nv) (pointsAt v q m)) w k
-
-two : (p : Point) → length (placeWords p) ≡ 2
-unfolding placeWords
-two p = refl
-
-put-two : (w : List ℕ) (at : ℕ) (p : Point) → set (set w at (p .x)) (at + 1) (p .z) ≡ splice w at (placeWords p)
-unfolding placeWords setEach
-put-two w at p = stored-each w at (p .x) (p .z ∷ [])
 
 module _ {v : List ℕ} {vo nv q m po : ℕ} (r : LayReady v vo nv q m po) where
   pub many : length (placesOf (verticesAt v vo nv) (pointsAt v q m)) ≡ m
@@ -81,34 +74,6 @@ module _ {v : List ℕ} {vo nv q m po : ℕ} (r : LayReady v vo nv q m po) where
     lay-all h = laid-all placeWords v po _ s (omega (arith, many))
 
 -- ---- the points are cut
-
-pub placed-words : (ps : List Point) → length (packed placeWords ps) ≡ length ps * 2
-placed-words ps = length-packed placeWords 2 (λ p. Unit) origin (λ p t. two p) ps (every-of (λ p. Unit) origin ps (λ i. tt))
-
--- places read back from their words
--- a place's two words
-place-at : (ps : List Point) (k : ℕ) → k < length ps → pointOf (packed placeWords ps) k ≡ getD ps k origin
-unfolding pointOf packed placeWords
-place-at [] k h = absurd (omega arith)
-place-at (p ∷ ps) zero h = refl
-place-at (p ∷ ps) (suc k) h =
-    let e : suc k * 2 ≡ suc (suc (k * 2)) = omega arith in
-    let f : suc (suc (k * 2)) + 1 ≡ suc (suc (k * 2 + 1)) = omega arith in
-    rw (e, f) (place-at ps k (omega arith))
-
-points-back : (ps : List Point) → pointsIn (packed placeWords ps) ≡ ps
-unfolding pointsIn
-points-back ps =
-    let n : length (packed placeWords ps) / 2 ≡ length ps = omega (arith, placed-words ps) in
-    rw n (ext-getD origin (tab (pointOf (packed placeWords ps)) (length ps)) ps (length-tab _ (length ps))
-    (λ k a. let h : k < length ps = rw length-tab at a in getD-tab _ (length ps) k origin h ∙ place-at ps k h))
-
-grid-words : (ps : List Point) → All InGrid ps → (k : ℕ) → getD (packed placeWords ps) k 0 ≤ 32767
-unfolding packed placeWords
-grid-words [] a k = omega arith
-grid-words (p ∷ ps) a zero = all-head a .x-small
-grid-words (p ∷ ps) a (suc zero) = all-head a .z-small
-grid-words (p ∷ ps) a (suc (suc k)) = grid-words ps (all-tail a) k
 
 module _ {v : List ℕ} {vo nv q m po : ℕ} (r : CutReady v vo nv q m po) {w : List ℕ}
     (e : w ≡ splice v po (packed placeWords (placesOf (verticesAt v vo nv) (pointsAt v q m)))) where

@@ -1,6 +1,6 @@
 -- A hole filled: what the cutting leaves is what the meshing asks for, and once the words of the cutting are wiped the polygons are all that was added.
 -- Assumes nothing.
-use mathlib.Core.Path.{_≡_, refl, sym, ap, _∙_, subst}
+use mathlib.Core.Path.{_≡_, refl, sym, ap, _∙_}
 use mathlib.Core.List.{List, [], _∷_, _++_}
 use Prim.Native.Nat.{ℕ, _+_, _-_, _*_}
 use native.Mathlib.Omega.{arith}
@@ -8,7 +8,7 @@ use lib.ListN.{length, replicate, length-append, length-replicate}
 use Rattle.mem.specs.Slice.{splice, length-splice, splice-append, splice-over, splice-comm}
 use Rattle.mem.specs.Tab.{blocks-after}
 use Rattle.mem.specs.Packed.{Every, packed, length-packed, unpacked}
-use Rattle.rules.specs.Ears.{Ears, done, stuck, triangulate}
+use Rattle.rules.specs.Ears.{done, stuck, triangulate}
 use Rattle.rules.specs.Mesh.{Polygon, noPolygon}
 use Rattle.rules.specs.Removal.{placesOf}
 use Rattle.rules.specs.declared.Vertex.{Vertex}
@@ -16,43 +16,12 @@ use Rattle.rules.specs.declared.ChainPoint.{ChainPoint}
 use Rattle.laws.specs.Lists.{All, all-imp, every-of-all}
 use Rattle.laws.specs.Ears.{Triangle, triangle, triangulated}
 use Rattle.laws.specs.Removal.{length-places}
-use Rattle.ears.specs.Part.{answerOf}
-use Rattle.ears.specs.declared.cut.Triangulation.{Triangulation}
-use Rattle.ears.specs.declared.cut.Triangulation.the-variants.{Done, Stuck}
 use Rattle.records.specs.Layout.{vertexSize, pointSize, polygonSize, vertexIn, pointIn, verticesAt, pointsAt, polygonRecords, Small}
 use Rattle.records.specs.Fixed.{point-fixed, fixed-count}
 use Rattle.records.specs.Polygons.{length-records}
 use Rattle.holes.specs.declared.fill.Filled.the-variants.{Polygons}
 use Rattle.holes.specs.Fill.{placeWords, cutWords, trianglesAt, MeshReady, MeshedTo, FillReady, holePolygons, filledOf, filledIn}
-use Rattle.holes.proofs.Fills.{placed-words}
-
--- ---- the answer of the cutting
-pub record WasDone (t : Ears) (k : ℕ) : Type 0 where
-  pub ts : List (List ℕ)
-  pub is : t ≡ done ts
-  pub count : k ≡ length ts
-
-IsDone : Triangulation → Type 0
-IsDone (Done k) = Unit
-IsDone (Stuck k) = ⊥
-
-number : Triangulation → ℕ
-number (Done k) = k
-number (Stuck k) = k
-
-pub was-done : (t : Ears) (k : ℕ) → Done k ≡ answerOf t → WasDone t k
-unfolding answerOf IsDone number
-was-done (done ts) k e = record { ts = ts; is = refl; count = ap number e }
-was-done (stuck j) k e = absurd (subst IsDone e tt)
-
-pub record WasStuck (t : Ears) : Type 0 where
-  pub k : ℕ
-  pub is : t ≡ stuck k
-
-pub was-stuck : (t : Ears) (k : ℕ) → Stuck k ≡ answerOf t → WasStuck t
-unfolding answerOf IsDone
-was-stuck (done ts) k e = absurd (subst IsDone (sym e) tt)
-was-stuck (stuck j) k e = record { k = j; is = refl }
+use Rattle.holes.specs.Places.{placed-words}
 
 module _ {v : List ℕ} {vo nv at q m po nvp : ℕ} (r : FillReady v vo nv at q m po nvp) {w : List ℕ}
     (e : w ≡ splice v po (cutWords m (placesOf (verticesAt v vo nv) (pointsAt v q m)) (triangulate (placesOf (verticesAt v vo nv) (pointsAt v q m))))) where

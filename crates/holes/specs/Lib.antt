@@ -5,3 +5,5 @@ pub mod Verdict
 pub mod Clear
 -- of the filling of the hole
 pub mod Fill
+-- places as words, and the answer of the cutting: laws for all who cut
+pub mod Places

@@ -3,7 +3,7 @@ use Prim.Native.Nat.{_^_, _<_}
 use lib.ListN.{length}
 use mathlib.Core.Path.{_∙_}
 use native.Mathlib.Omega.{arith}
-use Rattle.contours.proofs.Cuts.{was-done, was-stuck}
+use Rattle.holes.specs.Places.{was-done, was-stuck}
 use Rattle.contours.proofs.Adds.{contour-cut-ready, contour-weld-ready, contour-mesh-ready, polygons-fit, add-words, add-answer, stuck-words, stuck-answer}
 use borrow.Author.Needs.{needs}
 use Rattle.contours.proofs.add.add_contour.Statement.{statement}

@@ -1,15 +1,11 @@
 -- `holes::fill::fill_hole` meets its contract: the hole's words are filled with zeros, once its polygons are made or where it has no ear. Assumes nothing.
 use mathlib.Core.Path.{refl}
 use Rattle.holes.specs.Fill.{filledOf}
-use Rattle.holes.proofs.Patches.{was-done, was-stuck, fill-ready, fill-answer, fill-words, stuck-words}
+use Rattle.holes.specs.Places.{was-done, was-stuck}
+use Rattle.holes.proofs.Patches.{fill-ready, fill-answer, fill-words, stuck-words}
 use borrow.Author.Needs.{needs}
 use Rattle.holes.proofs.fill.fill_hole.Statement.{statement}
 use Rattle.holes.proofs.fill.fill_hole.Tie as tie
-use Rattle.holes.proofs.fill.fill_hole.Reads as reads
-use Rattle.holes.proofs.fill.fill_hole.Lts as lts
-use Rattle.holes.proofs.fill.cut_hole.Reads as cut-hole-reads
-use Rattle.holes.proofs.fill.mesh_hole.Reads as mesh-hole-reads
-use Rattle.words.proofs.fill.fill.Reads as fill-reads
 
 -- src/fill.rt:157:11
 cut-hole-requires : tie.Need-cut-hole-requires
@@ -89,7 +85,7 @@ returns-2 c =
     let s = c .before .before .before .before .before .before .before .before .before .before .before in
     let h = c .before .before .before .before .before .before .before .before .cut-hole in
     let x = was-stuck _ _ (rw (c .before .before .before .before .enum-told .given .1) at (h .ensures .0)) in
-    (rw (x .is) refl, stuck-words (s .pre) (h .ensures .1) (x .is) (c .before .before .fill2 .ensures))
+    (rw x refl, stuck-words (s .pre) (h .ensures .1) x (c .before .before .fill2 .ensures))
 
 pub fill-hole-spec : {M : Type 1} → statement M
 fill-hole-spec =
