@@ -7,7 +7,7 @@ use Prim.Native.Nat.{ℕ, _+_, _*_, _≤_}
 use native.Mathlib.Nat.{mul-le-mul-right}
 use native.Mathlib.Omega.{arith}
 use lib.ListN.{length, replicate, length-replicate}
-use Rattle.mem.specs.Slice.{splice, splice-whole}
+use Rattle.mem.specs.Slice.{splice-whole}
 use Rattle.rules.specs.Mesh.{Mesh}
 use Rattle.rules.specs.Removal.{Removal, Removals, removed, stuckAt, removeAll}
 use Rattle.rules.specs.Job.{Job, countV}
@@ -99,18 +99,17 @@ links-built j (added o) m ls log e = links-linked j (removeAll (j .nvp) o) m ls 
 -- ---- the build
 
 module _ {v t : ℕ} {j : Job} {b : Lent} (r : BuildReady v t j b) where
-  -- zeros over a buffer of just so many words
-  all-wiped : (u : List ℕ) {z : List ℕ} → length u ≡ wordsOf v → z ≡ splice u 0 (replicate (length (b .work)) 0) → z ≡ wiped j (b .work)
+  -- zeros in a buffer of just so many words
+  all-wiped : (u : List ℕ) {z : List ℕ} → length u ≡ wordsOf v → z ≡ replicate (length u) 0 → z ≡ wiped j (b .work)
   unfolding wiped workWords
   all-wiped u l e =
       let s = r .ready .size in
-      let a = length-replicate {A = ℕ} (length (b .work)) 0 in
-      let c : 4096 + 128 * countV j ≡ length (b .work) = ap wordsOf (sym (r .ready .vertices)) ∙ sym s in
-      e ∙ splice-whole u (replicate (length (b .work)) 0) (a ∙ s ∙ sym l)
-      ∙ sym (splice-whole (b .work) (replicate (length (b .work)) 0) a) ∙ ap (λ (k : ℕ). splice (b .work) 0 (replicate k 0)) (sym c)
+      let c : wordsOf v ≡ 4096 + 128 * countV j = ap wordsOf (r .ready .vertices) in
+      let a = length-replicate {A = ℕ} (4096 + 128 * countV j) 0 in
+      e ∙ ap (λ (k : ℕ). replicate k 0) (l ∙ c) ∙ sym (splice-whole (b .work) (replicate (4096 + 128 * countV j) 0) (a ∙ sym c ∙ sym s))
 
   module _ {u : List ℕ} {reply : Reply} (g : MeshedTo u v t j reply) where
-    pub refused-exit : {x : Refusal} → reply ≡ Refused x → {z : List ℕ} → z ≡ splice u 0 (replicate (length (b .work)) 0)
+    pub refused-exit : {x : Refusal} → reply ≡ Refused x → {z : List ℕ} → z ≡ replicate (length u) 0
         → BuiltTo j b (buffers (b .vertices) (b .polygons) (b .neighbours) (b .regions) (b .codes) (b .flags) z) (Refused x)
     unfolding exitOf onlyWiped
     refused-exit {x} e {z} d =
@@ -194,7 +193,7 @@ module _ {v t : ℕ} {j : Job} {b : Lent} (r : BuildReady v t j b) where
 
         pub built-exit : {at : Places} → at ≡ placesOf v t (record { vertices = nv; polygons = np }) → {a : Lent}
             → StoredTo at (j .nvp) (buffers (b .vertices) (b .polygons) (b .neighbours) (b .regions) (b .codes) (b .flags) x) a
-            → {z : List ℕ} → z ≡ splice x 0 (replicate (length (b .work)) 0)
+            → {z : List ℕ} → z ≡ replicate (length x) 0
             → BuiltTo j b (buffers (a .vertices) (a .polygons) (a .neighbours) (a .regions) (a .codes) (a .flags) z) (Built np nv)
         unfolding exitOf n m
         built-exit p k {z} d =

@@ -12,14 +12,14 @@ gather-mesh-requires c κs = search needs
 enum-known-r : tie.Need-enum-known-r
 enum-known-r c = search needs
 
-fill-requires : tie.Need-fill-requires
-fill-requires c κs = search needs
+wipe-requires : tie.Need-wipe-requires
+wipe-requires c κs = search needs
 
 same-length : tie.Need-same-length
 same-length c = search needs
 
 returns : tie.Need-returns
-returns c = refused-exit (c .before .before .before .before .before .before .before .before .before .before .before .before .before .before .before .before .before .before .before .before .before .before .pre .1) (c .before .before .before .before .before .before .before .before .before .gather-mesh .ensures _ _ _) (c .before .before .before .before .before .r .given .1) (c .before .before .fill .ensures)
+returns c = refused-exit (c .before .before .before .before .before .before .before .before .before .before .before .before .before .before .before .before .before .before .before .before .before .before .pre .1) (c .before .before .before .before .before .before .before .before .before .gather-mesh .ensures _ _ _) (c .before .before .before .before .before .r .given .1) (c .before .before .wipe .ensures)
 
 enum-known-np : tie.Need-enum-known-np
 enum-known-np c = search needs
@@ -34,8 +34,8 @@ store-mesh-requires : tie.Need-store-mesh-requires
 store-mesh-requires c κs =
     storable (c .before .before .before .before .before .before .before .before .before .before .before .before .before .before .before .before .before .before .before .before .before .before .before .before .before .before .before .before .before .before .pre .1) (c .before .before .before .before .before .before .before .before .before .before .before .before .before .before .before .before .before .gather-mesh .ensures _ _ _) (c .before .before .before .before .before .before .before .before .before .before .before .before .before .np .given .1) (c .before .before .before .before .before .before .before .before .before .link-mesh .ensures) (c .before .before .before .before .before .before .before .before .before .before .before .places .ensures)
 
-fill-requires-2 : tie.Need-fill-requires-2
-fill-requires-2 c κs = search needs
+wipe-requires-2 : tie.Need-wipe-requires-2
+wipe-requires-2 c κs = search needs
 
 same-length-2 : tie.Need-same-length-2
 same-length-2 c = search needs
@@ -56,12 +56,12 @@ same-length-7 : tie.Need-same-length-7
 same-length-7 c = search needs
 
 same-length-8 : tie.Need-same-length-8
-same-length-8 c = c .before .before .fill2 .kept .0 ∙ c .before .before .before .before .before .before .before .before .before .before .before .before .before .before .before .before .before .before .before .before .before .before .before .before .before .before .link-mesh .kept .0 ∙ c .before .before .before .before .before .before .before .before .before .before .before .before .before .before .before .before .before .before .before .before .before .before .before .before .before .before .before .before .before .before .before .before .before .before .gather-mesh .kept .0
+same-length-8 c = c .before .before .wipe2 .kept .0 ∙ c .before .before .before .before .before .before .before .before .before .before .before .before .before .before .before .before .before .before .before .before .before .before .before .before .before .before .link-mesh .kept .0 ∙ c .before .before .before .before .before .before .before .before .before .before .before .before .before .before .before .before .before .before .before .before .before .before .before .before .before .before .before .before .before .before .before .before .before .before .gather-mesh .kept .0
 
 returns-2 : tie.Need-returns-2
 returns-2 c =
     built-exit (c .before .before .before .before .before .before .before .before .before .before .before .before .before .before .before .before .before .before .before .before .before .before .before .before .before .before .before .before .before .before .before .before .before .before .before .before .before .before .before .before .before .before .before .before .before .before .before .pre .1) (c .before .before .before .before .before .before .before .before .before .before .before .before .before .before .before .before .before .before .before .before .before .before .before .before .before .before .before .before .before .before .before .before .before .before .gather-mesh .ensures _ _ _) (c .before .before .before .before .before .before .before .before .before .before .before .before .before .before .before .before .before .before .before .before .before .before .before .before .before .before .before .before .before .before .np .given .1) (c .before .before .before .before .before .before .before .before .before .before .before .before .before .before .before .before .before .before .before .before .before .before .before .before .before .before .link-mesh .ensures) (c .before .before .before .before .before .before .before .before .before .before .before .before .before .before .before .before .before .before .before .before .before .before .before .before .before .before .before .before .places .ensures)
-    (c .before .before .before .before .before .before .before .before .before .before .before .before .before .before .before .before .store-mesh .ensures) (c .before .before .fill2 .ensures)
+    (c .before .before .before .before .before .before .before .before .before .before .before .before .before .before .before .before .store-mesh .ensures) (c .before .before .wipe2 .ensures)
 
 pub build-spec : {M : Type 1} → statement M
 build-spec =
@@ -69,14 +69,14 @@ build-spec =
     (tie.spec
     gather-mesh-requires
     enum-known-r
-    fill-requires
+    wipe-requires
     same-length
     returns
     enum-known-np
     places-requires
     link-mesh-requires
     store-mesh-requires
-    fill-requires-2
+    wipe-requires-2
     same-length-2
     same-length-3
     same-length-4
