@@ -5,7 +5,6 @@ use mathlib.Core.List.{List, []}
 use Prim.Native.Nat.{ℕ}
 use native.Mathlib.Omega.{arith}
 use lib.ListN.{length, replicate, length-replicate}
-use Rattle.mem.specs.Slice.{splice, splice-whole}
 use Rattle.rules.specs.Mesh.{Mesh}
 use Rattle.rules.specs.Removal.{Removal, removeAll, removed, stuckAt}
 use Rattle.rules.specs.Removal as Rules
@@ -100,11 +99,9 @@ module _ {u₀ : List ℕ} {v t : ℕ} {j : Job} (r : Ready u₀ v t j) where
   }
 
   -- the buffer is blank
-  pub gather-ready : {u : List ℕ} → u ≡ splice u₀ 0 (replicate (length u₀) 0) → GatherReady u (groundOf v t) j
-  gather-ready {u} e =
-      let a = length-replicate {A = ℕ} (length u₀) 0 in
-      let b : u ≡ replicate (length u₀) 0 = e ∙ splice-whole u₀ (replicate (length u₀) 0) a in
-      let l : length u ≡ length u₀ = ap length b ∙ a in
+  pub gather-ready : {u : List ℕ} → u ≡ replicate (length u₀) 0 → GatherReady u (groundOf v t) j
+  gather-ready {u} b =
+      let l : length u ≡ length u₀ = ap length b ∙ length-replicate {A = ℕ} (length u₀) 0 in
       record {
         blank = b ∙ ap (λ (k : ℕ). replicate k 0) (sym l);
         fits = record {
