@@ -14,16 +14,16 @@ use Rattle.rules.specs.Mesh.{Polygon, noPolygon, placeOf}
 use Rattle.rules.specs.Job.{contourVertices, contourFlags}
 use Rattle.rules.specs.Build.{weldHeight, addContour}
 use Rattle.rules.specs.declared.Vertex.{Vertex}
-use Rattle.laws.specs.Lists.{All, all-of, all-imp, every-of-all}
-use Rattle.laws.specs.Merge.{Good, Below}
+use Rattle.laws.specs.Lists.{All, all-of, every-of-all}
 use Rattle.laws.specs.Weld.{Welds, welded}
 use Rattle.laws.specs.Contours.{length-contour}
-use Rattle.records.specs.Layout.{polygonSize, mostCorners, verticesAt, marksAt, polygonsAt, polygonRecords, Small}
+use Rattle.records.specs.Layout.{polygonSize, verticesAt, marksAt, polygonsAt, polygonRecords, Small}
 use Rattle.records.specs.Vertices.{length-vertices, length-marks}
 use Rattle.records.specs.Polygons.{length-polygons, length-records, records-append}
 use Rattle.weld.specs.Tables.{weldedWords, WeldReady, weldOf, WeldedTo}
 use Rattle.weld.specs.Standing.{placed-after}
 use Rattle.holes.specs.Fill.{cutWords, trianglesAt}
+use Rattle.holes.specs.Small.{small-good}
 use Rattle.contours.specs.declared.ground.Ground.{Ground}
 use Rattle.contours.specs.declared.ground.Contour.{Contour}
 use Rattle.contours.specs.declared.add.Added.the-variants.{To, NoEar}
@@ -33,9 +33,6 @@ use Rattle.contours.specs.Ground.{tablesOf, groundIn, meshAt, Fits}
 use Rattle.contours.specs.Adding.{AddReady, grownBy, addedOf}
 use Rattle.contours.proofs.Cuts.{all-three, triangle-count, triangles-there, long-cut}
 use Rattle.contours.proofs.Stages.{Stage, room-in, stage-size, in-cutting, tables-stand, vertices-stand, marks-stand, write-cutting, wipe-cutting, wipe-numbers, more-polygons, write-tables, mesh-stage, stage-mesh}
-
-pub small-good : {k nvp : ℕ} {ps : List Polygon} → nvp ≤ mostCorners → All (Good (Below k) nvp) ps → Every Small noPolygon ps
-small-good {k} {nvp} h a = every-of-all Small noPolygon (omega arith) (all-imp (λ p (g : Good (Below k) nvp p). omega (arith, g .short, h)) a)
 
 pub grid-everywhere : {vs : List Vertex} → All (λ v. InGrid (onPlane v)) vs → (k : ℕ) → InGrid (placeOf vs k)
 unfolding placeOf

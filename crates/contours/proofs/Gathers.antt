@@ -40,7 +40,7 @@ use Rattle.contours.specs.Ground.{tablesOf, groundIn, meshAt, Fits, Stan
 use Rattle.contours.specs.Adding.{AddReady, grownBy, addedOf}
 use Rattle.contours.specs.Gathering.{contourIn, NextReady, nextMesh, nextAnswer, GatherReady, gatheredOf, meshOf}
 use Rattle.contours.proofs.Stages.{Stage, zeros-in, vertices-stand, marks-stand, polygons-stand, mesh-stage}
-use Rattle.contours.proofs.Adds.{small-good}
+use Rattle.holes.specs.Small.{small-good}
 
 -- ---- no mesh is zeros
 

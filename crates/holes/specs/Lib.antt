@@ -7,3 +7,5 @@ pub mod Clear
 pub mod Fill
 -- places as words, and the answer of the cutting: laws for all who cut
 pub mod Places
+-- polygons have room in their records
+pub mod Small

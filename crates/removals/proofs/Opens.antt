@@ -29,7 +29,7 @@ use Rattle.removals.specs.declared.site.Site.{Site}
 use Rattle.removals.specs.declared.site.Counts.{Counts}
 use Rattle.removals.specs.Site.{meshAt, standing, meshIn, Fits, Stands}
 use Rattle.removals.specs.Removing.{ClosedTo, RemoveReady, holeAround, openedIn, OpenedTo}
-use Rattle.removals.specs.Standing.{small-good}
+use Rattle.holes.specs.Small.{small-good}
 use Rattle.removals.specs.Stages.{Stage, stage-size, anew-vertices, anew-polygons, anew-scratch, plain, vertices-tidy, vertices-read, marks-read, polygons-within, polygons-read, polygons-tidy, scratch-read}
 
 -- ---- a mesh that stands

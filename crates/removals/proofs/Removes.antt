@@ -43,7 +43,8 @@ use Rattle.removals.specs.Site.{meshAt, scratchRoom, standing, meshIn, F
 use Rattle.removals.specs.Removing.{RemoveReady, holeAround, openedIn, OpenedTo, removedTo, meshAfter}
 use Rattle.removals.specs.Stages.{Stage, stage-size, write-polygons, write-scratch, anew-vertices, anew-polygons, anew-scratch, stage-fits, vertices-read, scratch-read}
 use Rattle.removals.proofs.Opens.{stands-few}
-use Rattle.removals.specs.Standing.{small-good, stands-wider}
+use Rattle.removals.specs.Standing.{stands-wider}
+use Rattle.holes.specs.Small.{small-good}
 use Rattle.laws.specs.Left.{Left, left-over}
 
 pub open-ready : {w : List ℕ} {s : Site} {n : Counts} {nvp rem : ℕ} → RemoveReady w s n nvp rem → RemoveReady w s n mostCorners rem

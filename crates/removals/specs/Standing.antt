@@ -9,21 +9,19 @@ use Rattle.mem.specs.Packed.{Every}
 use Rattle.mem.specs.Shelves.{length-shelved, shelved-again}
 use Rattle.mem.specs.Zeros.{withZeros, length-zeros}
 use Rattle.rules.specs.Mesh.{Polygon, noPolygon, Mesh}
-use Rattle.laws.specs.Lists.{All, all-imp, every-of-all}
+use Rattle.laws.specs.Lists.{All, all-imp}
 use Rattle.laws.specs.Measures.{sparesIn}
 use Rattle.laws.specs.Merge.{Good, Below, polygons-few}
 use Rattle.laws.specs.Removal.{Sound}
 use Rattle.records.specs.Layout.{vertexSize, vertexRecords, polygonSize, mostCorners, polygonRecords, Small}
 use Rattle.records.specs.Vertices.{length-vertex-records}
 use Rattle.records.specs.Polygons.{length-records}
+use Rattle.holes.specs.Small.{small-good}
 use Rattle.removals.specs.declared.site.Site.{Site}
 use Rattle.removals.specs.declared.site.Counts.{Counts}
 use Rattle.removals.specs.Site.{meshAt, scratchRoom, standing, meshIn, Fits, Stands}
 use Rattle.removals.specs.Removing.{countsOf}
 use Rattle.removals.specs.Stages.{Stage, stage-fits, vertices-read, marks-read, polygons-read}
-
-pub small-good : {k nvp : ℕ} {ps : List Polygon} → nvp ≤ mostCorners → All (Good (Below k) nvp) ps → Every Small noPolygon ps
-small-good {k} {nvp} h a = every-of-all Small noPolygon (omega arith) (all-imp (λ p (g : Good (Below k) nvp p). omega (arith, g .short, h)) a)
 
 pub length-in : (w : List ℕ) (s : Site) (m : Mesh) → length (meshIn w s m) ≡ length w
 unfolding meshIn standing
