@@ -13,6 +13,7 @@ use Rattle.rules.specs.Removal.{Removal, gone, goes, removeVertex}
 use Rattle.rules.specs.Job.{Job, countT, contourVertices}
 use Rattle.rules.specs.Checks.{Lent}
 use Rattle.rules.specs.Build.{built, outcome, contourTriangle}
+use Rattle.rules.specs.Exits.{Stored}
 use Rattle.rules.specs.declared.Point.{Point}
 use Rattle.rules.specs.declared.Vertex.{Vertex}
 
@@ -33,6 +34,10 @@ polygonArea vs p = area (pointsOf vs p)
 
 unfoldable pub meshArea : Mesh → ℤ
 meshArea m = sumOf (polygonArea (m .vertices)) (m .polygons)
+
+-- of a mesh as it is stored
+unfoldable pub storedArea : Stored → ℤ
+storedArea m = sumOf (polygonArea (m .vertices)) (m .polygons)
 
 -- the doubled area of the contours of lengths ls, the first of which begins at the vertex `first` (a skipped one has fewer than three points, and so 0)
 unfoldable pub contourAreas : List ℕ → ℕ → List ℕ → ℤ

@@ -4,6 +4,7 @@ use mathlib.Core.Path.{_≡_, refl}
 use mathlib.Core.Bool.{true, false}
 use mathlib.Core.List.{List, [], _∷_, _++_, map}
 use Prim.Native.Nat.{ℕ, _+_}
+use Prim.Native.String.{String}
 use lib.IntN.{ℤ, pos, negℤ}
 use lib.Ieee.{Float, mul, ofBits}
 use lib.ListN.{length, getD, replicate}
@@ -23,6 +24,8 @@ use Rattle.rules.specs.Exits.{exits}
 use Rattle.rules.specs.Areas.{meshArea}
 use Rattle.rules.specs.Units.{perInch, millimetres}
 use Rattle.rules.specs.Distance.{unit}
+use Rattle.rules.specs.Lines.{ascii}
+use Rattle.rules.specs.Sheet.{textOf}
 use Rattle.rules.specs.declared.Point.{Point}
 use Rattle.rules.specs.declared.Vertex.{Vertex}
 use Rattle.rules.specs.declared.Reply.{Reply}
@@ -84,6 +87,8 @@ pub data Example : Type 0 where
   checks : Job → Checked → Example
   -- a cell size, and how many millimetres it is
   measures : CellSize → Float → Example
+  -- a sheet, and what is printed for it
+  prints : String → String → Example
 
 unfoldable pub Holds : Example → Type 0
 Holds (builds j s) = seen (outcome j (room 0 j)) ≡ s
@@ -93,6 +98,7 @@ Holds (keys a b s k) = squared a b ∷ keyOf a b ∷ [] ≡ s ∷ k ∷ []
 Holds (stands x z k) = bucket x z ≡ k
 Holds (checks j c) = checkV j ≡ c
 Holds (measures c x) = millimetres c ≡ x
+Holds (prints s t) = textOf (ascii s) ≡ ascii t
 
 -- each of a list of examples holds
 infixr 20 _&_
@@ -404,6 +410,51 @@ examples =
     -- the cell size: one inch, and one millimetre
     measures (Inches unit) perInch ∷
     measures (Millimetres unit) unit ∷
+    -- the sheet: document 01's sheet
+    prints "unit\tmm\ncell\t500\t250\nnvp\t6\ngrid\t4\t4\t0\ncontour\t1\t7\t4\nv\t0\t0\t0\t0\nv\t0\t0\t4\t0\nv\t4\t0\t4\t0\nv\t4\t0\t0\t0\n"
+    "unit\tmm\ncell\t500\t250\nmesh\t4\t1\t-32\nv\t0\t0\t0\nv\t0\t0\t4\nv\t4\t0\t4\nv\t4\t0\t0\np\t1\t7\t0\t1\t2\t3\nn\t65535\t65535\t65535\t65535\n" ∷
+    -- the sheet: no contours, inches, the largest cells
+    prints "unit\tin\ncell\t16777216\t16777216\nnvp\t3\ngrid\t65535\t0\t9\n"
+    "unit\tin\ncell\t16777216\t16777216\nmesh\t0\t0\t0\n" ∷
+    -- the sheet: 21: nothing; no LF; CR
+    prints ""
+    "refused\t21\t1\n" ∷
+    prints "unit\tmm"
+    "refused\t21\t1\n" ∷
+    prints "unit\tmm\r\n"
+    "refused\t21\t1\n" ∷
+    -- the sheet: 22: a missing line is the line after the last
+    prints "unit\tmm\n"
+    "refused\t22\t2\n" ∷
+    -- the sheet: 22: cells of 0 and of 16,777,217 thousandths
+    prints "unit\tmm\ncell\t1\t0\n"
+    "refused\t22\t2\n" ∷
+    prints "unit\tmm\ncell\t16777217\t1\n"
+    "refused\t22\t2\n" ∷
+    -- the sheet: 22: a leading zero; 65,536; one number too many
+    prints "unit\tmm\ncell\t1\t1\nnvp\t06\n"
+    "refused\t22\t3\n" ∷
+    prints "unit\tmm\ncell\t1\t1\nnvp\t65536\n"
+    "refused\t22\t3\n" ∷
+    prints "unit\tmm\ncell\t1\t1\nnvp\t6\t6\n"
+    "refused\t22\t3\n" ∷
+    -- the sheet: 22: an area code of 256; a vertex too few; a vertex too many
+    prints "unit\tmm\ncell\t1\t1\nnvp\t3\ngrid\t0\t0\t0\ncontour\t0\t256\t0\n"
+    "refused\t22\t5\n" ∷
+    prints "unit\tmm\ncell\t1\t1\nnvp\t3\ngrid\t0\t0\t0\ncontour\t0\t255\t1\n"
+    "refused\t22\t6\n" ∷
+    prints "unit\tmm\ncell\t1\t1\nnvp\t3\ngrid\t0\t0\t0\ncontour\t0\t0\t0\nv\t0\t0\t0\t0\n"
+    "refused\t22\t6\n" ∷
+    -- the sheet: 24: 97 vertices are declared; 22 comes before it on one line
+    prints "unit\tmm\ncell\t1\t1\nnvp\t3\ngrid\t0\t0\t0\ncontour\t0\t0\t97\n"
+    "refused\t24\t5\n" ∷
+    prints "unit\tmm\ncell\t1\t1\nnvp\t3\ngrid\t0\t0\t0\ncontour\t0\t256\t97\n"
+    "refused\t22\t5\n" ∷
+    -- the sheet: a refused build: nvp 2, and the square reversed
+    prints "unit\tmm\ncell\t1\t1\nnvp\t2\ngrid\t0\t0\t0\n"
+    "refused\t1\t2\n" ∷
+    prints "unit\tmm\ncell\t1\t1\nnvp\t3\ngrid\t0\t0\t0\ncontour\t1\t7\t4\nv\t4\t0\t0\t0\nv\t4\t0\t4\t0\nv\t0\t0\t4\t0\nv\t0\t0\t0\t0\n"
+    "refused\t7\t0\n" ∷
     []
 
 -- each row holds
@@ -412,4 +463,4 @@ unfolding rules numbersOf seen ended room Holds mul ofBits
 all-hold =
     refl & refl & refl & refl & refl & refl & refl & refl & refl & refl & refl & refl & refl & refl & refl & refl & refl & refl & refl & refl &
     refl & refl & refl & refl & refl & refl & refl & refl & refl & refl & refl & refl & refl & refl & refl & refl & refl & refl & refl & refl &
-    refl & refl & refl & refl & refl & refl & refl & refl & refl & refl & refl & refl & refl & refl & refl & refl & refl & end
+    refl & refl & refl & refl & refl & refl & refl & refl & refl & refl & refl & refl & refl & refl & refl & refl & refl & refl & refl & refl & refl & refl & refl & refl & refl & refl & refl & refl & refl & refl & refl & refl & refl & refl & refl & end

@@ -28,6 +28,9 @@ pub mod Exits
 -- the header's unit, and the distance
 pub mod Units
 pub mod Distance
+-- the job sheet: text in lines and cells, and what is printed for what is read
+pub mod Lines
+pub mod Sheet
 -- what is proved of the rules: demand 3, that loops go to their end, that what is written fits, and that each text is its sentence
 pub mod Areas
 pub mod Fuel

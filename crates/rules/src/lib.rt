@@ -124,3 +124,9 @@ pub struct Answer {
     pub reply: Reply,
     pub header: Header,
 }
+
+// A cell of a sheet that is read as a decimal: the number, or none.
+pub enum Decimal {
+    Value(u64),
+    Malformed,
+}
