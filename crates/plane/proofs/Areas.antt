@@ -17,7 +17,8 @@ use Rattle.mem.specs.Tab.{tab, length-tab, getD-tab}
 use Rattle.rules.specs.Plane.{D, fan, area}
 use Rattle.rules.specs.declared.Point.{Point}
 use Rattle.plane.specs.Points.{pointOf, pointsIn, GridWords}
-use Rattle.plane.proofs.Sizes.{on-grid, D-within}
+use Rattle.plane.specs.Sizes.{D-within}
+use Rattle.plane.proofs.Sizes.{on-grid}
 
 -- ---- the sum, turn by turn, of n points that are given place by place
 

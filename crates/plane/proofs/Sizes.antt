@@ -1,8 +1,8 @@
--- Coordinates up to 32767, as words and in an i32: what the code makes of them step by step, how large D is, and what the tests of its sign read.
--- A difference is within 32767, a product of two within 32767², and the difference of two such products fits. Assumes nothing.
+-- Coordinates up to 32767, as words and in an i32: what the code makes of them step by step, and what the tests of D's sign read. A difference, a product of
+-- two and the difference of two such products fit, by their sizes. Assumes nothing.
 use mathlib.Core.Path.{_≡_, refl}
 use mathlib.Core.List.{List}
-use Prim.Native.Nat.{ℕ, suc, _≤_, _<_, _-_, _*_, _^_}
+use Prim.Native.Nat.{ℕ, suc, _≤_, _<_, _-_, _^_}
 use native.Mathlib.Nat.{lt-of-le-of-lt}
 use native.Mathlib.Omega.{arith}
 use borrow.Author.Tests.{ne-eqb}
@@ -12,11 +12,12 @@ use lib.ListN.{getD}
 use lib.Signed.{mag}
 use mir.Syntax.{w16, w32}
 use mir.Val.{Fits, SFits, toZ, ofZ}
-use Rattle.ints.specs.Order.{Within, within-gap, within-mul, within-sub, within-fits}
+use Rattle.ints.specs.Order.{within-gap, within-fits}
 use Rattle.ints.specs.Machine.{Reads, reads-nat, sub-fits, sub-reads, mul-fits, mul-reads}
 use Rattle.rules.specs.Plane.{D, InGrid, isZero}
 use Rattle.rules.specs.declared.Point.{Point}
 use Rattle.plane.specs.Points.{pointOf, GridWords}
+use Rattle.plane.specs.Sizes.{product-size, turn-size}
 
 -- the bits of `m - n` and of `m * n`
 abbrev pub less : ℕ → ℕ → ℕ
@@ -41,11 +42,8 @@ module _ {m n : ℕ} (h : m ≤ 32767) (k : n ≤ 32767) where
 
 -- the product of two differences
 module _ {a b c d : ℕ} (h : a ≤ 32767) (k : b ≤ 32767) (i : c ≤ 32767) (j : d ≤ 32767) where
-  product-size : Within (32767 * 32767) ((pos a -ℤ pos b) *ℤ (pos c -ℤ pos d))
-  product-size = within-mul (within-gap h k) (within-gap i j)
-
   product-fits : SFits w32 ((pos a -ℤ pos b) *ℤ (pos c -ℤ pos d))
-  product-fits = within-fits (lit< tt) product-size
+  product-fits = within-fits (lit< tt) (product-size h k i j)
 
   pub product-needs : SFits w32 (toZ w32 (less a b) *ℤ toZ w32 (less c d))
   product-needs = mul-fits (gap-reads h k) (gap-reads i j) product-fits
@@ -56,22 +54,18 @@ module _ {a b c d : ℕ} (h : a ≤ 32767) (k : b ≤ 32767) (i : c ≤ 32767) (
 -- the difference of two such products
 module _ {a b c d e f g h : ℕ} (ha : a ≤ 32767) (hb : b ≤ 32767) (hc : c ≤ 32767) (hd : d ≤ 32767) (he : e ≤ 32767) (hf : f ≤ 32767) (hg : g ≤ 32767)
     (hh : h ≤ 32767) where
-  turn-size : Within 2147352578 ((pos a -ℤ pos b) *ℤ (pos c -ℤ pos d) -ℤ (pos e -ℤ pos f) *ℤ (pos g -ℤ pos h))
-  turn-size = within-sub (product-size ha hb hc hd) (product-size he hf hg hh)
+  turn-fits : SFits w32 ((pos a -ℤ pos b) *ℤ (pos c -ℤ pos d) -ℤ (pos e -ℤ pos f) *ℤ (pos g -ℤ pos h))
+  turn-fits = within-fits (lit< tt) (turn-size ha hb hc hd he hf hg hh)
 
   pub turn-needs : SFits w32 (toZ w32 (times (less a b) (less c d)) -ℤ toZ w32 (times (less e f) (less g h)))
-  turn-needs = sub-fits (product-reads ha hb hc hd) (product-reads he hf hg hh) (within-fits (lit< tt) turn-size)
+  turn-needs = sub-fits (product-reads ha hb hc hd) (product-reads he hf hg hh) turn-fits
 
   turn-reads : Reads w32 (less (times (less a b) (less c d)) (times (less e f) (less g h)))
       ((pos a -ℤ pos b) *ℤ (pos c -ℤ pos d) -ℤ (pos e -ℤ pos f) *ℤ (pos g -ℤ pos h))
-  turn-reads = sub-reads (product-reads ha hb hc hd) (product-reads he hf hg hh) (within-fits (lit< tt) turn-size)
+  turn-reads = sub-reads (product-reads ha hb hc hd) (product-reads he hf hg hh) turn-fits
 
 -- D of three points
 module _ {a b c : Point} (A : InGrid a) (B : InGrid b) (C : InGrid c) where
-  pub D-within : Within 2147352578 (D a b c)
-  unfolding D
-  D-within = turn-size (B .x-small) (A .x-small) (C .z-small) (A .z-small) (C .x-small) (A .x-small) (B .z-small) (A .z-small)
-
   pub D-reads : Reads w32 (less (times (less (b .x) (a .x)) (less (c .z) (a .z))) (times (less (c .x) (a .x)) (less (b .z) (a .z)))) (D a b c)
   unfolding D
   D-reads = turn-reads (B .x-small) (A .x-small) (C .z-small) (A .z-small) (C .x-small) (A .x-small) (B .z-small) (A .z-small)

@@ -1,2 +1,5 @@
 -- What the contracts of this crate cite beside the rules.
+-- points as words of a slice
 pub mod Points
+-- how large D is: a law for those who add areas up
+pub mod Sizes
