@@ -6,24 +6,20 @@ use mathlib.Core.Path.{_≡_, refl, sym, ap, ap₂, subst, _∙_}
 use mathlib.Core.List.{List}
 use Prim.Native.Nat.{ℕ}
 use lib.ListN.{length}
-use lib.IntN.{ℤ, _-ℤ_}
+use lib.IntN.{_-ℤ_}
 use Rattle.rules.specs.Mesh.{Mesh}
 use Rattle.rules.specs.Removal.{Removal}
 use Rattle.rules.specs.Job.{Job}
 use Rattle.rules.specs.Checks.{Lent}
 use Rattle.rules.specs.Build.{Outcome, refused, built, outcome, replyOf, answer}
-use Rattle.rules.specs.Exits.{exits, Stored, decoded}
-use Rattle.rules.specs.Areas.{sumOf, polygonArea, meshArea, jobArea, areaTaken}
+use Rattle.rules.specs.Exits.{exits, decoded}
+use Rattle.rules.specs.Areas.{sumOf, meshArea, storedArea, jobArea, areaTaken}
 use Rattle.rules.specs.declared.Header.{Header}
 use Rattle.rules.specs.declared.Answer.{Answer}
 use Rattle.rules.specs.declared.Reply.{Reply}
 use Rattle.rules.specs.declared.Reply.the-variants.{Built, Refused}
 use Rattle.laws.specs.Laws.{area-law}
 use Rattle.laws.specs.Exits.{reads-back}
-
--- the doubled area of the polygons that are stored
-abbrev pub storedArea : Stored → ℤ
-storedArea s = sumOf (polygonArea (s .vertices)) (s .polygons)
 
 -- the mesh and the log of the removals that the job comes to, and the area of what stands in u, read as n polygons and k vertices
 pub record GroundKept (j : Job) (b u : Lent) (n k : ℕ) : Type 0 where
@@ -38,7 +34,7 @@ IsBuilt (Built n k) = Unit
 IsBuilt (Refused r) = ⊥
 
 area-of : (m : Mesh) (ls : List (List ℕ)) → storedArea (record { vertices = m .vertices; polygons = m .polygons; links = ls }) ≡ meshArea m
-unfolding meshArea
+unfolding meshArea storedArea
 area-of m ls = refl
 
 from-outcome : (j : Job) (b u : Lent) (n k : ℕ) (o : Outcome) → outcome j b ≡ o → Built n k ≡ replyOf o → u ≡ exits j b → GroundKept j b u n k
