@@ -1,0 +1,12 @@
+-- the loops of a search for a byte, and of a comparison
+pub mod Scanning
+-- the loop over the digits of a cell
+pub mod Decimals
+-- the loop over the cells of a line
+pub mod Numbering
+-- the line at a place
+pub mod LineAt
+-- the loop that writes digits, the last one first
+pub mod Places
+-- the sign taken off a number
+pub mod Signs
