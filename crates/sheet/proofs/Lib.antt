@@ -1,0 +1,23 @@
+-- Laws that the proofs of this crate share.
+-- the heading lines
+pub mod Headings
+-- a contour line and a vertex line are read, and one line behind the other
+pub mod BodyLines
+pub mod Bodies
+-- the header, field by field
+pub mod Headers
+-- the corners of a stored polygon, counted
+pub mod Corners
+-- their places as words, and the area of these
+pub mod Places
+-- the areas, added up
+pub mod Sums
+-- the texts of each line, and the loops that print them
+pub mod LineTexts
+pub mod RowLoops
+-- a stored mesh, line after line
+pub mod Meshes
+-- the text for a reply of the build
+pub mod Replying
+-- the lists that were read, lent as parts
+pub mod Parts

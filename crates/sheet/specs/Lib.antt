@@ -1,0 +1,18 @@
+-- What the steps of a sheet ask for and leave. What is printed is said in the rules' `Sheet`.
+-- a stored mesh in the lent buffers: definitions that contracts cite
+pub mod Stored
+-- its area: laws for those who call
+pub mod Areas
+-- its lines as they are printed, and the whole
+pub mod Rows
+pub mod Printable
+-- how far a sheet has been read
+pub mod Reading
+-- the buffers are long enough, and so is the output
+pub mod Enough
+pub mod Room
+-- what the build's answer says of what is printed
+pub mod Answers
+pub mod Answering
+-- what is printed for a sheet, as far as it has been read
+pub mod Texts

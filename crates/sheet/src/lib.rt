@@ -1,0 +1,12 @@
+// The job sheet, on slices: the bytes of a sheet in, the text that is printed for it out. `mesh_sheet` is the one function
+// for users; the modules are its steps.
+mod header; // the header of the mesh
+mod heading; // the heading lines are read
+mod body; // the contours and their vertices are read
+mod area; // the doubled area of the stored polygons
+mod rows; // the lines of a mesh are printed
+mod mesh; // a stored mesh is printed
+mod answer; // a job is built, and its text printed
+mod text; // a sheet becomes a text
+
+pub use text::mesh_sheet;
