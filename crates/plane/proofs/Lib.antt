@@ -5,3 +5,5 @@ pub mod Sizes
 pub mod Areas
 -- a return from the middle of a chain of tests
 pub mod Chains
+-- the number that thousandths are divided by
+pub mod Thousand

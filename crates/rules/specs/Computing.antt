@@ -18,9 +18,9 @@ use Rattle.rules.specs.Replies.{refusalNumber, refusalSecond, writesNoth
 use Rattle.rules.specs.Checks.{workWords, leastLengths, lengthsOf, orNext, refuseIf, refuseAt, checkNvp, countsAgree, checkCounts, isHigh, firstHigh, firstBadFlag, checkV, firstShort, check}
 use Rattle.rules.specs.Build.{contourTriangle, addContour, addFrom, addAll, linked, cleared, afterCheck, outcome, replyOf, answer}
 use Rattle.rules.specs.Exits.{wiped, onlyWiped, vertexWords, padded, cornerWords, filled, exitOf, exits, vertexOf, upToNone, storedPolygon, storedLinks, decoded}
-use Rattle.rules.specs.Units.{perInch, millimetres, thousandths}
+use Rattle.rules.specs.Units.{sizeIn, perInch, millimetres, thousandths}
 use Rattle.rules.specs.Lines.{ascii, isEmpty, isSameText, onFirst, parts, wholeLines, linesOf, isDigit, areDigits, isDecimal, valueFrom, decimalIn, withNumber, numbersIn, numbersOf, digitsOf, decimal, signed, cell, signedCell, numberLine}
-use Rattle.rules.specs.Sheet.{unitName, mmName, inName, cellName, nvpName, gridName, contourName, vName, refusedName, meshName, pName, nName, lineAt, need, needUnit, tooMany, withContour, withVertex, contourNumbers, vertexNumbers, readBody, noContours, cellNumbers, nvpNumbers, gridNumbers, readSheet, zeroFloat, noPlace, sizeIn, headerOf, outcomeOf, refusedText, unitLine, meshLine, vertexLine, polygonLines, verticesText, polygonsText, meshText, builtText, readText, textOf}
+use Rattle.rules.specs.Sheet.{unitName, mmName, inName, cellName, nvpName, gridName, contourName, vName, refusedName, meshName, pName, nName, lineAt, need, needUnit, tooMany, withContour, withVertex, contourNumbers, vertexNumbers, readBody, noContours, cellNumbers, nvpNumbers, gridNumbers, readSheet, zeroFloat, noPlace, headerOf, outcomeOf, refusedText, unitLine, meshLine, vertexLine, polygonLines, verticesText, polygonsText, meshText, builtText, readText, textOf}
 use Rattle.rules.specs.Areas.{sumOf, pointsOf, polygonArea, meshArea, storedArea, contourAreas, jobArea, areaTaken, spareCorners, sparesOf, cornersTaken}
 
 unfoldable pub rules : Unit {0}

@@ -16,11 +16,9 @@ use Rattle.rules.specs.Replies.{refusalNumber, refusalSecond}
 use Rattle.rules.specs.Build.{Outcome, refused, built, afterCheck}
 use Rattle.rules.specs.Exits.{vertexWords, Stored}
 use Rattle.rules.specs.Areas.{storedArea}
-use Rattle.rules.specs.Units.{thousandths}
+use Rattle.rules.specs.Units.{sizeIn, thousandths}
 use Rattle.rules.specs.declared.Vertex.{Vertex}
 use Rattle.rules.specs.declared.Vec3.{Vec3}
-use Rattle.rules.specs.declared.CellSize.{CellSize}
-use Rattle.rules.specs.declared.CellSize.the-variants.{Millimetres, Inches}
 use Rattle.rules.specs.declared.Header.{Header}
 
 -- ---- the words of a sheet, and its limits
@@ -234,10 +232,6 @@ zeroFloat = Ieee.ofBits binary32 0
 
 unfoldable pub noPlace : Vec3
 noPlace = record { x = zeroFloat; y = zeroFloat; z = zeroFloat }
-
-unfoldable pub sizeIn : Bool → Float → CellSize
-sizeIn true x = Inches x
-sizeIn false x = Millimetres x
 
 unfoldable pub headerOf : Bool → ℕ → ℕ → Header
 headerOf inches size height = record {

@@ -220,4 +220,4 @@ module _ (text : List ℕ) (p : ℕ) (inches : Bool) where
 
         pub all-behind : Behind text (Headed headed)
         unfolding Behind
-        all-behind = (k .within, cell-most g .0, cell-most g .1)
+        all-behind = k .within

@@ -6,7 +6,7 @@ use lib.ListN.{length}
 use Rattle.rules.specs.Job.{sumOver}
 use Rattle.rules.specs.Replies.{refusalNumber, refusalSecond}
 use Rattle.rules.specs.Exits.{decoded}
-use Rattle.rules.specs.Sheet.{cellMost, declaredMost, outcomeOf, refusedText, meshText, builtText}
+use Rattle.rules.specs.Sheet.{declaredMost, outcomeOf, refusedText, meshText, builtText}
 use Rattle.rules.specs.declared.Reply.{Reply}
 use Rattle.rules.specs.declared.Reply.the-variants.{Built, Refused}
 use Rattle.lines.specs.Print.{Room}
@@ -34,10 +34,8 @@ pub record ReplyReady (x : Heading) (reply : Reply) (vs ps ls rs cs out : List �
 
 -- ---- a job
 
--- the cell is within its limits, at most 96 vertices are declared, and there is room for the text
-pub record JobReady (x : Heading) (ls out : List ℕ) : Type 0 where
-  pub size : x .size ≤ cellMost
-  pub height : x .height ≤ cellMost
+-- at most 96 vertices are declared, and there is room for the text
+pub record JobReady (ls out : List ℕ) : Type 0 where
   pub few : sumOver (λ n. n) ls ≤ declaredMost
   pub room : outMost ≤ length out
 

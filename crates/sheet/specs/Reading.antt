@@ -9,7 +9,7 @@ use lib.ListN.{length, take, drop, getD, set}
 use Rattle.mem.specs.Slice.{splice}
 use Rattle.rules.specs.Lines.{Line, linesOf, Numbers, numbers, malformed}
 use Rattle.rules.specs.Job.{jobStride, sumOver}
-use Rattle.rules.specs.Sheet.{contourName, vName, bytesMost, numberMost, cellMost, codeMost, contoursMost, declaredMost, headingLines, Sheet, Read, taken, bad, lineAt, need, needUnit, cellNumbers, nvpNumbers, gridNumbers, noContours, readBody}
+use Rattle.rules.specs.Sheet.{contourName, vName, bytesMost, numberMost, codeMost, contoursMost, declaredMost, headingLines, Sheet, Read, taken, bad, lineAt, need, needUnit, cellNumbers, nvpNumbers, gridNumbers, noContours, readBody}
 use Rattle.lines.specs.Read.{lineEnd, numbersAt}
 use Rattle.sheet.specs.declared.heading.Heading.{Heading}
 use Rattle.sheet.specs.declared.heading.HeadingRead.{HeadingRead}
@@ -59,9 +59,9 @@ unfoldable pub goesOn : List ℕ → HeadingRead → Read
 goesOn text (Headed x) = readBody (headingLines + 1) 0 (linesOf (drop (x .at) text)) (sheetOf x)
 goesOn text (Refused n k) = bad n k
 
--- the heading's numbers are within their limits, and its end is within the text
+-- the heading's end is within the text
 unfoldable pub Behind : List ℕ → HeadingRead → Type 0
-Behind text (Headed x) = (x .at ≤ length text) × (x .size ≤ cellMost) × (x .height ≤ cellMost)
+Behind text (Headed x) = x .at ≤ length text
 Behind text (Refused n k) = Unit {0}
 
 -- ---- the body

@@ -8,7 +8,7 @@ use borrow.Author.Tests.{lt-ltb, le-ltb, eq-eqb, ne-eqb}
 use lib.ListN.{length, take, drop}
 use Rattle.rules.specs.Lines.{linesOf}
 use Rattle.rules.specs.Job.{jobStride}
-use Rattle.rules.specs.Sheet.{bytesMost, headingLines, cellMost, readBody, readSheet, refusedText, readText, textOf}
+use Rattle.rules.specs.Sheet.{bytesMost, headingLines, readBody, readSheet, refusedText, readText, textOf}
 use Rattle.lines.specs.Print.{Printed}
 use Rattle.lines.specs.Printing.{printed-as}
 use Rattle.sheet.specs.declared.heading.Heading.{Heading}
@@ -23,12 +23,10 @@ use Rattle.sheet.specs.Answering.{jobText}
 unfoldable pub bodyText : List ℕ → Heading → List ℕ
 bodyText t x = readText (readBody (headingLines + 1) 0 (linesOf (drop (x .at) t)) (sheetOf x))
 
--- the heading's numbers are within their limits, its end is within the text, and there is room for what is printed
+-- the heading's end is within the text, and there is room for what is printed
 pub record HeadedReady (t : List ℕ) (x : Heading) (out : List ℕ) : Type 0 where
   pub inside : x .at ≤ length t
   pub short : length t ≤ bytesMost
-  pub size : x .size ≤ cellMost
-  pub height : x .height ≤ cellMost
   pub room : outMost ≤ length out
 
 -- ---- the sheet
@@ -70,8 +68,8 @@ module _ (t : List ℕ) (x : Heading) (p : Progress) (ls rs cs ns : List ℕ) (b
 pub headed-ready : {out : List ℕ} (t : List ℕ) (r : HeadingRead) (x : Heading) → r ≡ Headed x → Behind t r → length t ≤ bytesMost → length out ≡ outMost → HeadedReady t x out
 unfolding Behind
 headed-ready {out} t r x e b h l =
-    let k : (x .at ≤ length t) × (x .size ≤ cellMost) × (x .height ≤ cellMost) = subst (Behind t) e b in
-    record { inside = k .0; short = h; size = k .1; height = k .2; room = omega arith }
+    let k : x .at ≤ length t = subst (Behind t) e b in
+    record { inside = k; short = h; room = omega arith }
 
 -- a refusal is the answer
 pub whole-answer : {piece text v w : List ℕ} {r : ℕ} → length v ≡ outMost → length piece ≤ 50 → Printed piece v w 0 r → text ≡ piece

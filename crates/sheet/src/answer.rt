@@ -56,7 +56,7 @@ pub fn answer_job(
     numbers: &[u16],
     out: &mut [u8],
 ) -> usize
-    requires { ⌜ JobReady x (now lengths) (now out) ⌝ }
+    requires { ⌜ JobReady (now lengths) (now out) ⌝ }
     ensures printed { λ r. ⌜ Printed (jobText x (now (lengths .entry)) (now (regions .entry)) (now (codes .entry)) (now (numbers .entry))) (now (out .entry)) (now (out .exit)) 0 r ⌝ }
     ensures short { λ r. ⌜ r ≤ outMost ⌝ }
 {
