@@ -1,0 +1,3 @@
+-- Laws that the proofs of this crate share.
+-- numbers written one after the other
+pub mod Written

@@ -1,0 +1,10 @@
+// The way in for C, C++ and Rust: numbers and slices. Each entry has a version in its name; include/mittencrest.h declares
+// them for C.
+mod header; // the header and the answer as numbers
+mod measures; // the distance, and units
+mod build; // the build
+
+pub use build::mittencrest_build_v1;
+pub use measures::mittencrest_distance_v1;
+pub use measures::mittencrest_millimetres_v1;
+pub use measures::mittencrest_thousandths_v1;
