@@ -1,0 +1,42 @@
+// Runs recorded jobs again, and writes the meshes. Their answers, which the file `stdout` has, were given by the Rust;
+// docs/COMPARISON.md says how they were made. A file of data/ has sheets, each with an empty line behind it.
+mod split; // one sheet after the other
+
+use crate::split::sheet_end;
+use libc::STDOUT_FILENO;
+
+// The answer to one sheet, with an empty line behind it.
+fn answer_one(text: &[u8]) {
+    let mut out = [0u8; 65536];
+    let m = sheet::mesh_sheet(text, &mut out);
+    io::write_all(STDOUT_FILENO, &out[..m]);
+    io::write_all(STDOUT_FILENO, b"\n");
+}
+
+// The answers to all sheets of a text.
+fn answer_all(text: &[u8]) {
+    let mut at = 0;
+    while at < text.len() {
+        let e = sheet_end(text, at);
+        answer_one(&text[at..e]);
+        at = e + 1;
+    }
+}
+
+// The answers to all sheets of a file.
+fn replay(name: &[u8]) {
+    let fd = os::open_read(name);
+    if fd < 0 {
+        os::fail(name);
+        return;
+    }
+    let mut input = [0u8; 524288];
+    let n = io::read_full(fd, &mut input);
+    libc::close(fd);
+    answer_all(&input[..n]);
+}
+
+fn main() {
+    replay(b"near");
+    replay(b"far");
+}
