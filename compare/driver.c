@@ -333,7 +333,8 @@ static void print_mesh(const struct job *job, size_t polygons, size_t vertices)
     }
 }
 
-static void mode_build(void)
+/* Builds one job after the other, and prints of each what `print` prints. */
+static void each_job(void (*print)(const struct job *job, const uint64_t answer[]))
 {
     struct job job;
     uint64_t answer[MITTENCREST_ANSWER_LENGTH];
@@ -341,14 +342,21 @@ static void mode_build(void)
     while (read_job(&job)) {
         fill(&job);
         build(&job, answer);
-        if (answer[MITTENCREST_REPLY] == MITTENCREST_BUILT)
-            print_mesh(&job, (size_t)answer[MITTENCREST_SECOND], (size_t)answer[MITTENCREST_THIRD]);
-        else
-            printf("refused %" PRIu64 " %" PRIu64 "\n", answer[MITTENCREST_REPLY], answer[MITTENCREST_SECOND]);
+        print(&job, answer);
         printf("done\n");
         flush();
     }
 }
+
+static void print_answer(const struct job *job, const uint64_t answer[])
+{
+    if (answer[MITTENCREST_REPLY] == MITTENCREST_BUILT)
+        print_mesh(job, (size_t)answer[MITTENCREST_SECOND], (size_t)answer[MITTENCREST_THIRD]);
+    else
+        printf("refused %" PRIu64 " %" PRIu64 "\n", answer[MITTENCREST_REPLY], answer[MITTENCREST_SECOND]);
+}
+
+static void mode_build(void) { each_job(print_answer); }
 
 /* FNV-1a, 64 bits, over each word's value as four bytes, lowest first. */
 static uint64_t checksum(const struct list *list)
@@ -362,22 +370,14 @@ static uint64_t checksum(const struct list *list)
     return sum;
 }
 
-static void mode_buffers(void)
+static void print_buffers(const struct job *job, const uint64_t answer[])
 {
-    struct job job;
-    uint64_t answer[MITTENCREST_ANSWER_LENGTH];
-    begin(&job);
-    while (read_job(&job)) {
-        fill(&job);
-        build(&job, answer);
-        printf("%" PRIu64 " %" PRIu64 " %" PRIu64 "\n", answer[MITTENCREST_REPLY], answer[MITTENCREST_SECOND],
-               answer[MITTENCREST_THIRD]);
-        for (int k = 0; k < BUFFERS; k++)
-            printf("b %zu %016" PRIx64 "\n", job.lent[k].count, checksum(&job.lent[k]));
-        printf("done\n");
-        flush();
-    }
+    printf("%" PRIu64 " %" PRIu64 " %" PRIu64 "\n", answer[MITTENCREST_REPLY], answer[MITTENCREST_SECOND], answer[MITTENCREST_THIRD]);
+    for (int k = 0; k < BUFFERS; k++)
+        printf("b %zu %016" PRIx64 "\n", job->lent[k].count, checksum(&job->lent[k]));
 }
+
+static void mode_buffers(void) { each_job(print_buffers); }
 
 static uint32_t bits_of(float f)
 {

@@ -1,9 +1,25 @@
 // Runs recorded jobs again, and writes the meshes. Their answers, which the file `stdout` has, were given by the Rust;
 // docs/COMPARISON.md says how they were made. A file of data/ has sheets, each with an empty line behind it.
-mod split; // one sheet after the other
-
-use crate::split::sheet_end;
+ghost use Prim.Native.Nat.{_≤_, _<_};
+ghost use lib.ListN.{length};
 use libc::STDOUT_FILENO;
+
+// The end of the sheet that begins at `at`: the first empty line behind it, or the end of the text.
+fn sheet_end(text: &[u8], at: usize) -> usize
+    requires { ⌜ at < length (now text) ⌝ }
+    ensures { λ r. ⌜ (at < r) × (r ≤ length (now (text .entry))) ⌝ }
+{
+    let mut i = at + 1;
+    while i < text.len() {
+        if text[i] == b'\n' {
+            if text[i - 1] == b'\n' {
+                return i;
+            }
+        }
+        i += 1;
+    }
+    i
+}
 
 // The answer to one sheet, with an empty line behind it.
 fn answer_one(text: &[u8]) {

@@ -1,9 +1,9 @@
--- `replay::split::sheet_end` meets its contract: the place found is behind the beginning, and within the text. Assumes nothing.
+-- `replay::sheet_end` meets its contract: the place found is behind the beginning, and within the text. Assumes nothing.
 use Prim.Native.Nat.{_-_, _≤_, _<_}
 use lib.ListN.{length}
 use borrow.Author.Needs.{needs}
-use Rattle.replay.proofs.split.sheet_end.Statement.{statement}
-use Rattle.replay.proofs.split.sheet_end.Tie as tie
+use Rattle.replay.proofs.sheet_end.Statement.{statement}
+use Rattle.replay.proofs.sheet_end.Tie as tie
 
 abbrev Inv-loop : tie.InvT-loop
 Inv-loop text at i₀ i = (at < i) × (i ≤ length text)
