@@ -1,8 +1,8 @@
--- The value of a pair: what the functions find of the values p and q of two polygons is what R4 says of their corners. Assumes nothing.
+-- The value of a pair: what the functions find of two polygons in the buffer is what R4 says of their corners. Assumes nothing.
 use mathlib.Core.Path.{_≡_, ap, _∙_}
 use mathlib.Core.Bool.{Bool, true, false, _&&_}
 use mathlib.Core.List.{List}
-use Prim.Native.Nat.{ℕ, _+_, _-_, _%_, _≤_, _<_}
+use Prim.Native.Nat.{ℕ, _+_, _-_, _*_, _%_, _≤_, _<_}
 use native.Mathlib.Omega.{arith}
 use native.Mathlib.Nat.{mod-lt}
 use borrow.Author.Tests.{le-leb, lt-leb}
@@ -14,26 +14,26 @@ use Rattle.rules.specs.declared.Point.{Point}
 use Rattle.rules.specs.declared.Vertex.{Vertex}
 use Rattle.rules.specs.declared.Pair.{Pair}
 use Rattle.rules.specs.declared.Shared.the-variants.{Sides, NoSide}
-use Rattle.laws.specs.Lists.{All, all-at}
+use Rattle.laws.specs.Lists.{all-at}
 use Rattle.laws.specs.Merge.{Good, Below, shared-at}
-use Rattle.records.specs.Layout.{mostCorners, polygonsAt}
-use Rattle.records.specs.Values.{cornersOf, Loaded, On}
-use Rattle.records.specs.Polygons.{loaded-corners, length-corners, length-polygons}
-use Rattle.records.specs.declared.polygon.Poly.{Poly}
+use Rattle.records.specs.Layout.{polygonSize, mostCorners, verticesAt, polygonsAt}
+use Rattle.records.specs.Values.{cornersFrom, Stands, CornerOf}
+use Rattle.records.specs.Polygons.{length-polygons}
+use Rattle.records.specs.Corners.{stands-at, corners-at}
 use Rattle.polys.specs.Ready.{Ready, Joint, pairOf}
 
 -- ---- corners
 
 -- a place counted round
-pub on-round : (p : Poly) (i k : ℕ) → On p i → On p (k % p .n)
-on-round p i k o = record { below = mod-lt k (omega (arith, o .below)); most = o .most }
+pub round-on : {w : List ℕ} {at i : ℕ} (n k : ℕ) → CornerOf w at i → n ≡ length (cornersFrom w at) → CornerOf w at (k % n)
+round-on n k c e = record { stands = c .stands; below = rw (← e) (mod-lt k (omega (arith, c .below))) }
 
 -- the test on three places in hand
-pub left-made : (vs : List Vertex) (p q : Poly) (i j : ℕ) {a b c : Point} → length (p .corners) ≡ mostCorners → length (q .corners) ≡ mostCorners
-    → p .n ≤ mostCorners → q .n ≤ mostCorners → a ≡ placeOf vs (getD (cornersOf p) ((i + p .n - 1) % p .n) 0) → b ≡ placeOf vs (getD (cornersOf p) i 0)
-    → c ≡ placeOf vs (getD (cornersOf q) ((j + 2) % q .n) 0) → isLeft a b c ≡ turnsLeft vs (cornersOf p) (cornersOf q) i j
+pub left-made : (vs : List Vertex) (a b : List ℕ) (i j : ℕ) {na nb : ℕ} {p q r : Point} → na ≡ length a → nb ≡ length b
+    → p ≡ placeOf vs (getD a ((i + na - 1) % na) 0) → q ≡ placeOf vs (getD a i 0) → r ≡ placeOf vs (getD b ((j + 2) % nb) 0)
+    → isLeft p q r ≡ turnsLeft vs a b i j
 unfolding turnsLeft
-left-made vs p q i j l m hp hq ea eb ec = rw (length-corners p l hp, length-corners q m hq, ea, eb, ec)
+left-made vs a b i j ea eb ep eq er = rw (ep, eq, er, ea, eb)
 
 -- the three tests of a join
 pub may-made : (vs : List Vertex) (a b : List ℕ) (i j : ℕ) {t u v : Bool} → t ≡ isOpposite a b i j → u ≡ turnsLeft vs a b i j → v ≡ turnsLeft vs b a j i
@@ -62,18 +62,22 @@ module _ {w : List ℕ} {vo nv o np nvp : ℕ} (ready : Ready w vo nv o np nvp) 
   pub small-at : (i : ℕ) → i < np → length (polygonAt (polygonsAt w o np) i .corners) ≤ mostCorners
   small-at i h = omega (arith, good-at i h .short, ready .most)
 
-  pub joint-of : (a b : ℕ) {p q : Poly} (i j : ℕ) → a < np → b < np → Loaded (polygonAt (polygonsAt w o np) a) p → Loaded (polygonAt (polygonsAt w o np) b) q
-      → Sides i j ≡ sharedSide (cornersOf p) (cornersOf q) → Joint w vo nv p q i j
-  joint-of a b {p} {q} i j ha hb lp lq e =
-      let ep : cornersOf p ≡ polygonAt (polygonsAt w o np) a .corners = loaded-corners lp in
-      let eq : cornersOf q ≡ polygonAt (polygonsAt w o np) b .corners = loaded-corners lq in
-      let h : (i < length (cornersOf p)) × (j < length (cornersOf q)) = shared-at (cornersOf p) (cornersOf q) i j e in
+  pub stands-in : (i : ℕ) → i < np → Stands w (o + i * polygonSize)
+  stands-in i h = stands-at w o np i (ready .fits) h (small-at i h)
+
+  corners-in : (i : ℕ) → i < np → cornersFrom w (o + i * polygonSize) ≡ polygonAt (polygonsAt w o np) i .corners
+  corners-in i h = corners-at w o np i (ready .fits) h
+
+  pub joint-of : (a b i j : ℕ) → a < np → b < np
+      → Sides i j ≡ sharedSide (cornersFrom w (o + a * polygonSize)) (cornersFrom w (o + b * polygonSize)) → Joint w vo nv (o + a * polygonSize) (o + b * polygonSize) i j
+  joint-of a b i j ha hb e =
+      let h = shared-at (cornersFrom w (o + a * polygonSize)) (cornersFrom w (o + b * polygonSize)) i j e in
       record {
         placed = ready .placed;
-        p-in = rw ep (good-at a ha .inside);
-        q-in = rw eq (good-at b hb .inside);
-        p-on = record { below = omega (arith, h .0, ap length ep, lp .count); most = lp .most };
-        q-on = record { below = omega (arith, h .1, ap length eq, lq .count); most = lq .most };
+        a-in = rw (corners-in a ha) (good-at a ha .inside);
+        b-in = rw (corners-in b hb) (good-at b hb .inside);
+        a-on = record { stands = stands-in a ha; below = h .0 };
+        b-on = record { stands = stands-in b hb; below = h .1 };
       }
 
 -- ---- the value of polygons a and b of ps
@@ -94,15 +98,23 @@ module _ (vs : List Vertex) (nvp : ℕ) (ps : List Polygon) (a b : ℕ) where
   unfolding mergeValue fits
   value-big h = rw (mergeValue, lt-leb (length (polygonAt ps a .corners) + length (polygonAt ps b .corners) - 2) nvp (omega arith))
 
-  module _ {p q : Poly} (lp : Loaded (polygonAt ps a) p) (lq : Loaded (polygonAt ps b) q) where
-    pub value-at-sides : {r : Pair} (i j : ℕ) → p .n + q .n ≤ nvp + 2 → Sides i j ≡ sharedSide (cornersOf p) (cornersOf q)
-        → r ≡ pairOf vs (cornersOf p) (cornersOf q) a b i j → r ≡ mergeValue vs nvp ps a b
-    value-at-sides i j h e f =
-        (rw (loaded-corners lp, loaded-corners lq) at f)
-        ∙ value-sides i j (omega (arith, lp .count, lq .count)) (rw (loaded-corners lp, loaded-corners lq) at e)
+-- the same, of what was read in the buffer
+module _ {w : List ℕ} {vo nv o np nvp : ℕ} (ready : Ready w vo nv o np nvp) (a b : ℕ) (ha : a < np) (hb : b < np) {m n : ℕ} {r : Pair}
+    (em : m ≡ length (cornersFrom w (o + a * polygonSize))) (en : n ≡ length (cornersFrom w (o + b * polygonSize))) where
+  pub value-at-sides : (i j : ℕ) → m + n ≤ nvp + 2 → Sides i j ≡ sharedSide (cornersFrom w (o + a * polygonSize)) (cornersFrom w (o + b * polygonSize))
+      → r ≡ pairOf (verticesAt w vo nv) (cornersFrom w (o + a * polygonSize)) (cornersFrom w (o + b * polygonSize)) a b i j
+      → r ≡ mergeValue (verticesAt w vo nv) nvp (polygonsAt w o np) a b
+  value-at-sides i j h e f =
+      (rw (corners-in ready a ha, corners-in ready b hb) at f)
+      ∙ value-sides _ nvp _ a b i j (omega (arith, ap length (corners-in ready a ha), ap length (corners-in ready b hb)))
+      (rw (corners-in ready a ha, corners-in ready b hb) at e)
 
-    pub value-at-none : {r : Pair} → p .n + q .n ≤ nvp + 2 → NoSide ≡ sharedSide (cornersOf p) (cornersOf q) → r ≡ noPair → r ≡ mergeValue vs nvp ps a b
-    value-at-none h e f = f ∙ value-none (omega (arith, lp .count, lq .count)) (rw (loaded-corners lp, loaded-corners lq) at e)
+  pub value-at-none : m + n ≤ nvp + 2 → NoSide ≡ sharedSide (cornersFrom w (o + a * polygonSize)) (cornersFrom w (o + b * polygonSize)) → r ≡ noPair
+      → r ≡ mergeValue (verticesAt w vo nv) nvp (polygonsAt w o np) a b
+  value-at-none h e f =
+      f
+      ∙ value-none _ nvp _ a b (omega (arith, ap length (corners-in ready a ha), ap length (corners-in ready b hb)))
+      (rw (corners-in ready a ha, corners-in ready b hb) at e)
 
-    pub value-too-big : {r : Pair} → nvp + 2 < p .n + q .n → r ≡ noPair → r ≡ mergeValue vs nvp ps a b
-    value-too-big h f = f ∙ value-big (omega (arith, lp .count, lq .count))
+  pub value-too-big : nvp + 2 < m + n → r ≡ noPair → r ≡ mergeValue (verticesAt w vo nv) nvp (polygonsAt w o np) a b
+  value-too-big h f = f ∙ value-big _ nvp _ a b (omega (arith, ap length (corners-in ready a ha), ap length (corners-in ready b hb)))

@@ -14,8 +14,7 @@ use Rattle.rules.specs.declared.Pair.{Pair}
 use Rattle.laws.specs.Lists.{All}
 use Rattle.laws.specs.Merge.{Good, Below, Joinable}
 use Rattle.records.specs.Layout.{vertexSize, polygonSize, mostCorners, verticesAt, polygonsAt, polygonRecords, Small, Tidy, Placed}
-use Rattle.records.specs.Values.{cornersOf, On}
-use Rattle.records.specs.declared.polygon.Poly.{Poly}
+use Rattle.records.specs.Values.{cornersFrom, CornerOf}
 
 -- nv vertices stand at vo, and np polygons at o, behind them: each of 3 corners or more, at most nvp, and each corner one of the vertices
 pub record Ready (w : List ℕ) (vo nv o np nvp : ℕ) : Type 0 where
@@ -30,13 +29,13 @@ pub record MergeReady (w : List ℕ) (vo nv o np nvp : ℕ) : Type 0 where
   pub ready : Ready w vo nv o np nvp
   pub tidy : Tidy w o np
 
--- side i of p and side j of q, whose corners are among the nv vertices at vo
-pub record Joint (w : List ℕ) (vo nv : ℕ) (p q : Poly) (i j : ℕ) : Type 0 where
+-- side i of the polygon at `at` and side j of the one at `bt`, whose corners are among the nv vertices at vo
+pub record Joint (w : List ℕ) (vo nv at bt i j : ℕ) : Type 0 where
   pub placed : Placed w vo nv
-  pub p-in : All (Below nv) (cornersOf p)
-  pub q-in : All (Below nv) (cornersOf q)
-  pub p-on : On p i
-  pub q-on : On q j
+  pub a-in : All (Below nv) (cornersFrom w at)
+  pub b-in : All (Below nv) (cornersFrom w bt)
+  pub a-on : CornerOf w at i
+  pub b-on : CornerOf w bt j
 
 -- polygons p and q, with the corners a and b, at side i of a and side j of b: `pairAt` of the rules, for corners in hand
 unfoldable pub pairOf : List Vertex → List ℕ → List ℕ → ℕ → ℕ → ℕ → ℕ → Pair

@@ -1,56 +1,67 @@
-// The side that two polygons share.
+// The side that two polygons share. Their words start at `at` and at `bt`.
 ghost use mathlib.Core.Path.{_≡_};
-ghost use Prim.Native.Nat.{_≤_};
-ghost use Rattle.rules.specs.Merge.{isAlong, isOpposite, isEqual, sharedSide};
-ghost use Rattle.records.specs.Layout.{mostCorners};
-ghost use Rattle.records.specs.Values.{cornersOf, On};
-use records::polygon::Poly;
-use records::polygon::corner;
-use records::polygon::side_end;
+ghost use mathlib.Core.Bool.{_&&_, _||_};
+ghost use lib.Dec.{eqb};
+ghost use Rattle.rules.specs.Merge.{sharedBy, sharedSide};
+ghost use Rattle.records.specs.Values.{cornersFrom, Stands, CornerOf};
+use records::corner::corner_from;
+use records::corner::count_from;
+use records::corner::end_from;
 use rules::Shared;
 
-// Whether side i of p and side j of q run the same way.
-fn is_along(p: Poly, q: Poly, i: usize, j: usize) -> bool
-    requires { ⌜ On p i × On q j ⌝ }
-    ensures { λ r. ⌜ r ≡ isAlong (cornersOf p) (cornersOf q) i j ⌝ }
+// Whether the sides from a to b and from c to d run the same way.
+fn is_along(a: u32, b: u32, c: u32, d: u32) -> bool
+    ensures { λ r. ⌜ r ≡ (eqb a c && eqb b d) ⌝ }
 {
-    (corner(p, i) == corner(q, j)) & (side_end(p, i) == side_end(q, j))
+    (a == c) & (b == d)
 }
 
 // Whether they run in opposite directions.
-pub fn is_opposite(p: Poly, q: Poly, i: usize, j: usize) -> bool
-    requires { ⌜ On p i × On q j ⌝ }
-    ensures { λ r. ⌜ r ≡ isOpposite (cornersOf p) (cornersOf q) i j ⌝ }
+pub fn is_opposite(a: u32, b: u32, c: u32, d: u32) -> bool
+    ensures { λ r. ⌜ r ≡ (eqb a d && eqb b c) ⌝ }
 {
-    (corner(p, i) == side_end(q, j)) & (side_end(p, i) == corner(q, j))
+    (a == d) & (b == c)
 }
 
 // Whether they are equal: the same two vertices, either way round.
-fn is_equal(p: Poly, q: Poly, i: usize, j: usize) -> bool
-    requires { ⌜ On p i × On q j ⌝ }
-    ensures { λ r. ⌜ r ≡ isEqual (cornersOf p) (cornersOf q) i j ⌝ }
+fn is_equal(a: u32, b: u32, c: u32, d: u32) -> bool
+    ensures { λ r. ⌜ r ≡ ((eqb a c && eqb b d) || (eqb a d && eqb b c)) ⌝ }
 {
-    is_along(p, q, i, j) | is_opposite(p, q, i, j)
+    is_along(a, b, c, d) | is_opposite(a, b, c, d)
 }
 
-// The last side of p with an equal one in q, and the first such in q.
-pub fn shared_side(p: Poly, q: Poly) -> Shared
-    requires { ⌜ (p .n ≤ mostCorners) × (q .n ≤ mostCorners) ⌝ }
-    ensures { λ r. ⌜ r ≡ sharedSide (cornersOf p) (cornersOf q) ⌝ }
+// Side i of the first, and the first side of the second that is equal to it.
+fn shared_by(work: &[u32], at: usize, bt: usize, i: usize) -> Shared
+    requires { ⌜ CornerOf (now work) at i × Stands (now work) bt ⌝ }
+    ensures { λ r. ⌜ r ≡ sharedBy (cornersFrom (now (work .entry)) at) (cornersFrom (now (work .entry)) bt) i ⌝ }
 {
-    let mut found = Shared::NoSide;
-    let nb = q.n;
-    let mut i = p.n;
-    'search: while 0 < i {
+    let a = corner_from(work, at, i);
+    let b = end_from(work, at, i);
+    let n = count_from(work, bt);
+    let mut j = 0;
+    while j < n {
+        if is_equal(a, b, corner_from(work, bt, j), end_from(work, bt, j)) {
+            return Shared::Sides(i, j);
+        }
+        j += 1;
+    }
+    Shared::NoSide
+}
+
+// The last side of the first with an equal one in the second, and the first such in that.
+pub fn shared_side(work: &[u32], at: usize, bt: usize) -> Shared
+    requires { ⌜ Stands (now work) at × Stands (now work) bt ⌝ }
+    ensures { λ r. ⌜ r ≡ sharedSide (cornersFrom (now (work .entry)) at) (cornersFrom (now (work .entry)) bt) ⌝ }
+{
+    let mut i = count_from(work, at);
+    while 0 < i {
         i -= 1;
-        let mut j = 0;
-        while j < nb {
-            if is_equal(p, q, i, j) {
-                found = Shared::Sides(i, j);
-                break 'search;
+        match shared_by(work, at, bt, i) {
+            Shared::Sides(k, j) => {
+                return Shared::Sides(k, j);
             }
-            j += 1;
+            Shared::NoSide => {}
         }
     }
-    found
+    Shared::NoSide
 }

@@ -5,5 +5,6 @@ pub mod Values
 -- what is stored is what is loaded: laws of the records
 pub mod Vertices
 pub mod Polygons
+pub mod Corners
 pub mod Blanks
 pub mod Fixed

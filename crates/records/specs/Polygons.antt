@@ -155,7 +155,7 @@ module _ (w : List ℕ) (at : ℕ) (fits : at + polygonSize ≤ length w) where
   unfolding polygonIn
   count-small h = long (getD w at 0) (rw first at h)
 
-  in-view : (n r a : ℕ) → getD w at 0 ≡ n → n ≤ mostCorners → getD w (at + 1) 0 ≡ r → getD w (at + 2) 0 ≡ a
+  pub in-view : (n r a : ℕ) → getD w at 0 ≡ n → n ≤ mostCorners → getD w (at + 1) 0 ≡ r → getD w (at + 2) 0 ≡ a
       → _≡_ {A = Polygon} (polygonIn (view w at polygonSize)) (record { corners = view w (at + 3) n; region = r; code = a })
   unfolding polygonIn
   in-view n r a e h f g = λ i. record {

@@ -1,12 +1,13 @@
 -- Polygons by value, and what the functions on records ask for. Definitions only.
 use mathlib.Core.Path.{_≡_}
-use mathlib.Core.List.{List, [], _∷_, _++_}
+use mathlib.Core.List.{List, _∷_, _++_}
 use Prim.Native.Nat.{ℕ, _+_, _*_, _≤_, _<_}
-use lib.ListN.{length, take, replicate}
+use lib.ListN.{length, take, getD, replicate}
+use Rattle.mem.specs.Slice.{view}
 use Rattle.mem.specs.Packed.{Every}
 use Rattle.rules.specs.Mesh.{Polygon, noPolygon}
 use Rattle.rules.specs.Exits.{padded}
-use Rattle.records.specs.Layout.{polygonSize, mostCorners, spareWords, polygonsAt, Small, Tidy}
+use Rattle.records.specs.Layout.{polygonSize, mostCorners, spareWords, polygonIn, polygonsAt, Small, Tidy}
 use Rattle.records.specs.declared.polygon.Poly.{Poly}
 
 -- the value of a polygon, and what a value holds
@@ -32,6 +33,20 @@ pub record Loaded (p : Polygon) (r : Poly) : Type 0 where
 pub record On (p : Poly) (i : ℕ) : Type 0 where
   pub below : i < p .n
   pub most : p .n ≤ mostCorners
+
+-- the corners of the polygon whose words start at `at`
+unfoldable pub cornersFrom : List ℕ → ℕ → List ℕ
+cornersFrom w at = polygonIn (view w at polygonSize) .corners
+
+-- a polygon's words start at `at`
+pub record Stands (w : List ℕ) (at : ℕ) : Type 0 where
+  pub fits : at + polygonSize ≤ length w
+  pub most : getD w at 0 ≤ mostCorners
+
+-- and i is one of its corners
+pub record CornerOf (w : List ℕ) (at i : ℕ) : Type 0 where
+  pub stands : Stands w at
+  pub below : i < length (cornersFrom w at)
 
 -- of np polygons at o, number i is one
 pub record SwapReady (w : List ℕ) (o np i : ℕ) : Type 0 where

@@ -11,7 +11,7 @@ ghost use Rattle.rules.specs.Mesh.{noPolygon, polygonAt, sideEnd, placeOf};
 ghost use Rattle.laws.specs.Lists.{All};
 ghost use Rattle.laws.specs.Merge.{Below};
 ghost use Rattle.records.specs.Layout.{polygonSize, mostCorners, polygonIn, polygonsAt, polygonRecords, verticesAt, Placed};
-ghost use Rattle.records.specs.Values.{cornersOf, polyWords, toPoly, Loaded, On, SwapReady};
+ghost use Rattle.records.specs.Values.{cornersOf, polyWords, toPoly, Loaded, On, Stands, SwapReady};
 use crate::vertex::place_at;
 use plane::ring::next;
 use rules::Point;
@@ -25,7 +25,7 @@ pub const MOST_CORNERS: usize = 12;
 pub const LINK_SIZE: usize = 12;
 
 // Where a polygon's words have its corners, and what is kept behind them.
-const CORNERS_AT: usize = 3;
+pub const CORNERS_AT: usize = 3;
 
 const SPARE_AT: usize = 15;
 
@@ -42,7 +42,7 @@ pub struct Poly {
 
 // The polygon whose words start at `at`.
 pub fn load_poly(work: &[u32], at: usize) -> Poly
-    requires { ⌜ (at + polygonSize ≤ length (now work)) × (getD (now work) at 0 ≤ mostCorners) ⌝ }
+    requires { ⌜ Stands (now work) at ⌝ }
     ensures { λ r. ⌜ Loaded (polygonIn (view (now (work .entry)) at polygonSize)) r ⌝ }
 {
     let n = work[at] as usize;

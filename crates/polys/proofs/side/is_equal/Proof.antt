@@ -1,6 +1,5 @@
--- `polys::side::is_equal` meets its contract: it is the definition. Assumes nothing.
+-- `polys::side::is_equal` meets its contract: it is the two tests. Assumes nothing.
 use borrow.Author.Needs.{needs}
-use Rattle.rules.specs.Merge.{isEqual}
 use Rattle.polys.proofs.side.is_equal.Statement.{statement}
 use Rattle.polys.proofs.side.is_equal.Tie as tie
 
@@ -11,7 +10,6 @@ is-opposite-requires : tie.Need-is-opposite-requires
 is-opposite-requires c κs = search needs
 
 returns : tie.Need-returns
-unfolding isEqual
 returns c = rw (c .is-opposite .ensures, c .before .is-along .ensures)
 
 pub is-equal-spec : {M : Type 1} → statement M

@@ -1,72 +1,45 @@
--- `polys::side::shared_side` meets its contract: as long as nothing is found, the answer is that of the sides that are left. Assumes nothing.
-use mathlib.Core.Path.{_≡_, refl, sym, _∙_}
-use Prim.Native.Nat.{_-_, _≤_, _<_}
+-- `polys::side::shared_side` meets its contract: as long as nothing is found, the answer is that of the rows that are left. Assumes nothing.
+use Rattle.records.specs.Values.{cornersFrom}
+use Rattle.polys.proofs.Sides.{Rows, rows-all, rows-none, rows-next, rows-hit}
 use borrow.Author.Needs.{needs}
-use Rattle.rules.specs.declared.Shared.the-variants.{NoSide}
-use Rattle.records.specs.Values.{cornersOf}
-use Rattle.records.specs.Polygons.{length-corners}
-use Rattle.polys.proofs.Sides.{Rows, Row, rows-all, rows-none, row-start, row-next, row-hit, row-end}
 use Rattle.polys.proofs.side.shared_side.Statement.{statement}
 use Rattle.polys.proofs.side.shared_side.Tie as tie
 
 abbrev Inv-loop : tie.InvT-loop
-Inv-loop p q found₀ nb i j₀ found j = Row (cornersOf p) (cornersOf q) i j × (i < p .n) × (found ≡ NoSide)
+Inv-loop work at bt i₀ i = Rows (cornersFrom work at) (cornersFrom work bt) i
 
 abbrev μ-loop : tie.MeasureT-loop
-μ-loop p q found₀ nb i j₀ found j = nb - j
+μ-loop work at bt i₀ i = i
 
-abbrev Inv-search : tie.InvT-search
-Inv-search p q found₀ nb i₀ found i = Rows (cornersOf p) (cornersOf q) i × (i ≤ p .n) × (found ≡ NoSide)
+count-from-requires : tie.Need-count-from-requires Inv-loop μ-loop
+count-from-requires c κs = search needs
 
-abbrev μ-search : tie.MeasureT-search
-μ-search p q found₀ nb i₀ found i = i
+loop-holds : tie.Need-loop-holds Inv-loop μ-loop
+loop-holds c = rows-all _ _ _ (c .count-from .ensures)
 
-search-holds : tie.Need-search-holds Inv-loop μ-loop Inv-search μ-search
-search-holds c = (rows-all _ _ _ (length-corners (c .args .p) (search needs) (search needs)), search needs, refl)
-
-sub-i : tie.Need-sub-i Inv-loop μ-loop Inv-search μ-search
+sub-i : tie.Need-sub-i Inv-loop μ-loop
 sub-i c = search needs
 
-loop-holds : tie.Need-loop-holds Inv-loop μ-loop Inv-search μ-search
-loop-holds c = (row-start _ _ _ (search needs) (c .before .search .inv .0), search needs, c .before .search .inv .2)
+shared-by-requires : tie.Need-shared-by-requires Inv-loop μ-loop
+shared-by-requires c κs = search needs
 
-search-less : tie.Need-search-less Inv-loop μ-loop Inv-search μ-search
-search-less c = search needs
+enum-known-k : tie.Need-enum-known-k Inv-loop μ-loop
+enum-known-k c = search needs
 
-search-again : tie.Need-search-again Inv-loop μ-loop Inv-search μ-search
-search-again c =
-    let s = c .before .before .before .before in (
-      row-end _ _ (c .before .loop .inv .0) (rw (length-corners (s .args .q) (search needs) (search needs)) (search needs)),
-      search needs,
-      c .before .loop .inv .2,
-    )
+returns : tie.Need-returns Inv-loop μ-loop
+returns c = rows-hit _ _ (c .before .before .before .before .before .loop .inv) _ _ (search needs) (c .before .before .before .shared-by .ensures) (c .before .k .given .1)
 
-is-equal-requires : tie.Need-is-equal-requires Inv-loop μ-loop Inv-search μ-search
-is-equal-requires c κs = search needs
+enum-told : tie.Need-enum-told Inv-loop μ-loop
+enum-told c = search needs
 
-add-j : tie.Need-add-j Inv-loop μ-loop Inv-search μ-search
-add-j c = search needs
-
-loop-less : tie.Need-loop-less Inv-loop μ-loop Inv-search μ-search
+loop-less : tie.Need-loop-less Inv-loop μ-loop
 loop-less c = search needs
 
-loop-again : tie.Need-loop-again Inv-loop μ-loop Inv-search μ-search
-loop-again c =
-    let s = c .before .before .before .before .before .before in (
-      row-next _ _ (c .before .before .before .loop .inv .0) (rw (length-corners (s .args .q) (search needs) (search needs)) (search needs))
-          (sym (c .before .is-equal .ensures) ∙ c .if1 .left),
-      search needs,
-      c .before .before .before .loop .inv .2,
-    )
+loop-again : tie.Need-loop-again Inv-loop μ-loop
+loop-again c = rows-next _ _ (c .before .before .before .before .loop .inv) (search needs) (c .before .before .shared-by .ensures) (c .enum-told .given .1)
 
-returns : tie.Need-returns Inv-loop μ-loop Inv-search μ-search
-returns c = c .before .search .inv .2 ∙ rows-none _ _ _ (search needs) (c .before .search .inv .0)
-
-returns-2 : tie.Need-returns-2 Inv-loop μ-loop Inv-search μ-search
-returns-2 c =
-    let s = c .before .before .before .before .before .before in
-    row-hit _ _ (c .before .before .before .loop .inv .0) (rw (length-corners (s .args .q) (search needs) (search needs)) (search needs))
-    (sym (c .before .is-equal .ensures) ∙ c .if1 .taken)
+returns-2 : tie.Need-returns-2 Inv-loop μ-loop
+returns-2 c = rows-none _ _ (c .before .loop .inv) (search needs)
 
 pub shared-side-spec : {M : Type 1} → statement M
 shared-side-spec =
@@ -74,16 +47,13 @@ shared-side-spec =
     (tie.spec
     Inv-loop
     μ-loop
-    Inv-search
-    μ-search
-    search-holds
-    sub-i
+    count-from-requires
     loop-holds
-    search-less
-    search-again
-    is-equal-requires
-    add-j
+    sub-i
+    shared-by-requires
+    enum-known-k
+    returns
+    enum-told
     loop-less
     loop-again
-    returns
     returns-2)
