@@ -1,12 +1,12 @@
 -- A job that has passed the checks is built: what each step asks for, and what the buffers hold at the end. Assumes nothing.
--- Key: `refused-exit` and `built-exit`.
+-- Key: `refused-exit` and `built-exit`; `made-built`, once all is wiped.
 use mathlib.Core.Path.{_≡_, refl, sym, ap, ap₂, subst, _∙_}
 use mathlib.Core.Bool.{false, cond}
-use mathlib.Core.List.{List}
+use mathlib.Core.List.{List, _++_}
 use Prim.Native.Nat.{ℕ, _+_, _*_, _≤_}
 use native.Mathlib.Nat.{mul-le-mul-right}
 use native.Mathlib.Omega.{arith}
-use lib.ListN.{length, replicate, length-replicate}
+use lib.ListN.{length, drop, replicate, length-append, length-drop, length-replicate}
 use Rattle.mem.specs.Slice.{splice-whole}
 use Rattle.rules.specs.Mesh.{Mesh}
 use Rattle.rules.specs.Removal.{Removal, Removals, removed, stuckAt, removeAll}
@@ -29,14 +29,14 @@ use Rattle.removals.specs.Site.{meshAt, Stands}
 use Rattle.removals.specs.Removing.{countsOf}
 use Rattle.removals.specs.Standing.{stands-wider}
 use Rattle.outputs.specs.declared.store.Places.{Places}
-use Rattle.outputs.specs.Ready.{buffers, StoreReady, StoredTo}
+use Rattle.outputs.specs.Ready.{StoreReady, StoredTo}
 use Rattle.outputs.specs.Stored.{store-ready, stored-filled}
 use Rattle.outputs.specs.Stored as Outputs
-use Rattle.polymesh.specs.Layout.{wordsOf, siteOf}
+use Rattle.polymesh.specs.Layout.{wordsOf, usedOf, siteOf}
 use Rattle.polymesh.specs.Gather.{Meshed, comesTo, MeshedTo}
 use Rattle.polymesh.specs.Linking.{placesOf, linksWith, LinkableReady, LinkedTo}
-use Rattle.polymesh.specs.Build.{BuildReady, BuiltTo}
-use Rattle.polymesh.proofs.Gathers.{ready-sized}
+use Rattle.polymesh.specs.Build.{BuildReady, MakeReady, lending, MadeTo, BuiltTo}
+use Rattle.polymesh.proofs.Gathers.{admitted-sized}
 
 -- ---- what a reply says of the outcome
 
@@ -98,26 +98,52 @@ links-built j (added o) m ls log e = links-linked j (removeAll (j .nvp) o) m ls 
 
 -- ---- the build
 
-module _ {v t : ℕ} {j : Job} {b : Lent} (r : BuildReady v t j b) where
-  -- zeros in a buffer of just so many words
-  all-wiped : (u : List ℕ) {z : List ℕ} → length u ≡ wordsOf v → z ≡ replicate (length u) 0 → z ≡ wiped j (b .work)
-  unfolding wiped workWords
-  all-wiped u l e =
-      let s = r .ready .size in
-      let c : wordsOf v ≡ 4096 + 128 * countV j = ap wordsOf (r .ready .vertices) in
-      let a = length-replicate {A = ℕ} (4096 + 128 * countV j) 0 in
-      e ∙ ap (λ (k : ℕ). replicate k 0) (l ∙ c) ∙ sym (splice-whole (b .work) (replicate (4096 + 128 * countV j) 0) (a ∙ sym c ∙ sym s))
+-- zeros in a buffer of just the words that are lent
+all-wiped : {v t : ℕ} {j : Job} {b : Lent} → BuildReady v t j b → (k : ℕ) {z : List ℕ} → k ≡ length (b .work) → z ≡ replicate k 0 → z ≡ wiped j (b .work)
+unfolding wiped workWords
+all-wiped {v} {t} {j} {b} r k l e =
+    let c : wordsOf v ≡ 4096 + 128 * countV j = ap wordsOf (r .ready .job .vertices) in
+    let a = length-replicate {A = ℕ} (4096 + 128 * countV j) 0 in
+    e ∙ ap (λ (k : ℕ). replicate k 0) (l ∙ r .size ∙ c) ∙ sym (splice-whole (b .work) (replicate (4096 + 128 * countV j) 0) (a ∙ sym c ∙ sym (r .size)))
 
+-- the words that are used are among those that are lent
+pub used-fits : {v t : ℕ} {j : Job} {b : Lent} → BuildReady v t j b → {n : ℕ} → n ≡ usedOf v t → n ≤ length (b .work)
+used-fits r e = omega (arith, e, r .size, admitted-sized (r .ready .job) .t-most)
+
+-- and enough
+pub make-ready : {v t : ℕ} {j : Job} {b : Lent} → BuildReady v t j b → (part : List ℕ) → length part ≡ usedOf v t → MakeReady v t j (lending b part)
+make-ready r part l = record {
+  size = l;
+  ready = record {
+    job = r .ready .job;
+    room = record {
+      vertices = r .ready .room .vertices;
+      polygons = r .ready .room .polygons;
+      neighbours = r .ready .room .neighbours;
+      regions = r .ready .room .regions;
+      codes = r .ready .room .codes;
+      flags = r .ready .room .flags;
+    };
+    fits = r .ready .fits;
+  };
+}
+
+-- once all is wiped: ys is what those words became
+pub made-built : {v t : ℕ} {j : Job} {b u : Lent} {reply : Reply} → BuildReady v t j b → (part : List ℕ) → MadeTo j (lending b part) u reply → (ys : List ℕ) (n : ℕ)
+    → length ys ≡ n → n ≤ length (b .work) → {z : List ℕ} → z ≡ replicate (length (ys ++ drop n (b .work))) 0 → BuiltTo j b (lending u z) reply
+made-built {b = b} {u = u} r part m ys n l h e =
+    let k : length (ys ++ drop n (b .work)) ≡ length (b .work) = simp (length-append, length-drop) (omega arith) in
+    record { answer = m .answer; exit = ap (lending u) (all-wiped r _ k e) ∙ m .exit (b .work) }
+
+module _ {v t : ℕ} {j : Job} {b : Lent} (r : MakeReady v t j b) where
   module _ {u : List ℕ} {reply : Reply} (g : MeshedTo u v t j reply) where
-    pub refused-exit : {x : Refusal} → reply ≡ Refused x → {z : List ℕ} → z ≡ replicate (length u) 0
-        → BuiltTo j b (buffers (b .vertices) (b .polygons) (b .neighbours) (b .regions) (b .codes) (b .flags) z) (Refused x)
+    pub refused-exit : {x : Refusal} → reply ≡ Refused x → {z : List ℕ} → MadeTo j b (lending b z) (Refused x)
     unfolding exitOf onlyWiped
-    refused-exit {x} e {z} d =
+    refused-exit {x} e =
         let o = was-refused (comesTo j) x (sym e ∙ g .answer) in
         record {
           answer = sym e ∙ g .answer;
-          exit = ap (buffers (b .vertices) (b .polygons) (b .neighbours) (b .regions) (b .codes) (b .flags)) (all-wiped u (g .size) d)
-              ∙ sym (ap (exitOf j b) o ∙ ap (λ c. cond c b (onlyWiped j b)) (quiet j (addAll j) x o));
+          exit = λ w. sym (ap (exitOf j (lending b w)) o ∙ ap (λ c. cond c (lending b w) (onlyWiped j (lending b w))) (quiet j (addAll j) x o));
         }
 
     module _ {np nv : ℕ} (e : reply ≡ Built np nv) where
@@ -140,12 +166,12 @@ module _ {v t : ℕ} {j : Job} {b : Lent} (r : BuildReady v t j b) where
 
       fit : Fits m (w .links)
       unfolding m
-      fit = r .fits (w .mesh) (w .links) (w .log) (w .is)
+      fit = r .ready .fits (w .mesh) (w .links) (w .log) (w .is)
 
       pub linkable : LinkableReady u v t (record { vertices = nv; polygons = np })
       unfolding n m
       linkable = record {
-        sized = ready-sized (r .ready);
+        sized = admitted-sized (r .ready .job);
         room = omega (arith, g .size);
         stands = subst (λ (c : Counts). Stands u (siteOf v t) c mostCorners) (sym counts) (stands-wider (meshed .stands));
         few = rw (w .polygons) (fit .polygons);
@@ -173,31 +199,29 @@ module _ {v t : ℕ} {j : Job} {b : Lent} (r : BuildReady v t j b) where
         unfolding m
         few-rows = mul-le-mul-right (j .nvp) (rw (w .polygons) few)
 
-        room-now : Outputs.Room (placesOf v t n) (j .nvp) (buffers (b .vertices) (b .polygons) (b .neighbours) (b .regions) (b .codes) (b .flags) x)
+        room-now : Outputs.Room (placesOf v t n) (j .nvp) (lending b x)
         unfolding n m
         room-now =
             let q : np ≤ t = rw (w .polygons) few in
             record {
-              vertices = omega (arith, w .vertices, meshed .stands .vertices, r .room .vertices);
-              polygons = omega (arith, few-rows, r .room .polygons);
-              neighbours = omega (arith, few-rows, r .room .neighbours);
-              regions = omega (arith, q, r .room .regions);
-              codes = omega (arith, q, r .room .codes);
-              flags = omega (arith, q, r .room .flags);
+              vertices = omega (arith, w .vertices, meshed .stands .vertices, r .ready .room .vertices);
+              polygons = omega (arith, few-rows, r .ready .room .polygons);
+              neighbours = omega (arith, few-rows, r .ready .room .neighbours);
+              regions = omega (arith, q, r .ready .room .regions);
+              codes = omega (arith, q, r .ready .room .codes);
+              flags = omega (arith, q, r .ready .room .flags);
             }
 
         pub storable : {at : Places} → at ≡ placesOf v t (record { vertices = nv; polygons = np })
-            → StoreReady at (j .nvp) (buffers (b .vertices) (b .polygons) (b .neighbours) (b .regions) (b .codes) (b .flags) x)
+            → StoreReady at (j .nvp) (lending b x)
         unfolding n
-        storable p = rw p (store-ready stored room-now (r .ready .passed .nvp-high) (all-imp (λ p (k : Good (Below (length (m .vertices))) (j .nvp) p). k .short) sound) fit)
+        storable p = rw p (store-ready stored room-now (r .ready .job .passed .nvp-high) (all-imp (λ p (k : Good (Below (length (m .vertices))) (j .nvp) p). k .short) sound) fit)
 
-        pub built-exit : {at : Places} → at ≡ placesOf v t (record { vertices = nv; polygons = np }) → {a : Lent}
-            → StoredTo at (j .nvp) (buffers (b .vertices) (b .polygons) (b .neighbours) (b .regions) (b .codes) (b .flags) x) a
-            → {z : List ℕ} → z ≡ replicate (length x) 0
-            → BuiltTo j b (buffers (a .vertices) (a .polygons) (a .neighbours) (a .regions) (a .codes) (a .flags) z) (Built np nv)
+        pub built-exit : {at : Places} → at ≡ placesOf v t (record { vertices = nv; polygons = np }) → {a : Lent} → StoredTo at (j .nvp) (lending b x) a → {z : List ℕ}
+            → MadeTo j b (lending a z) (Built np nv)
         unfolding exitOf n m
-        built-exit p k {z} d =
+        built-exit p k =
             record {
               answer = sym e ∙ g .answer;
-              exit = stored-filled stored j (rw p at k) (b .work) z (all-wiped x (l .size ∙ g .size) d) ∙ sym (ap (exitOf j b) (w .is));
+              exit = λ y. stored-filled stored j (rw p at k) y (wiped j y) refl ∙ sym (ap (exitOf j (lending b y)) (w .is));
             }

@@ -26,8 +26,8 @@ use Rattle.removals.specs.declared.all.Removals.the-variants as Tried
 use Rattle.removals.specs.Site.{meshAt, meshIn, Stands}
 use Rattle.removals.specs.Removing.{countsOf, triedTo, meshLeft}
 use Rattle.removals.specs.Standing.{Suits, length-in, mesh-read, stands-of}
-use Rattle.polymesh.specs.Layout.{Sized, wordsOf, groundOf, siteOf}
-use Rattle.polymesh.specs.Gather.{Ready, Meshed, comesTo, MeshedTo}
+use Rattle.polymesh.specs.Layout.{Sized, usedOf, groundOf, siteOf}
+use Rattle.polymesh.specs.Gather.{Admitted, Ready, Meshed, comesTo, MeshedTo}
 use Rattle.polymesh.proofs.Grounds.{ground-size, ground-stands, ground-read}
 
 -- ---- the contours' answer
@@ -56,7 +56,7 @@ was-no-ear (noEarIn d i) c k e = cc
 pub record Came (u : List ℕ) (v t : ℕ) (x : Contours) (n : Counts) : Type 0 where
   pub mesh : Mesh
   pub is : x ≡ added mesh
-  pub words : u ≡ groundIn (wordsOf v) (groundOf v t) mesh
+  pub words : u ≡ groundIn (usedOf v t) (groundOf v t) mesh
   pub counts : n ≡ countsOf mesh
 
 -- ---- the removals' answer
@@ -83,17 +83,20 @@ was-stuck (stuckAt k) i e = cc
 
 -- ---- what a job comes to
 
+pub admitted-sized : {v t : ℕ} {j : Job} → Admitted v t j → Sized v t
+admitted-sized {j = j} a = record { v-most = omega (arith, a .vertices, a .passed .few); t-most = omega (arith, a .vertices, a .triangles, T-below-V j) }
+
 module _ {u₀ : List ℕ} {v t : ℕ} {j : Job} (r : Ready u₀ v t j) where
-  pub ready-sized : Sized v t
-  ready-sized = record { v-most = omega (arith, r .vertices, r .passed .few); t-most = omega (arith, r .vertices, r .triangles, T-below-V j) }
+  ready-sized : Sized v t
+  ready-sized = admitted-sized (r .job)
 
   suits : {m : Mesh} {log : List Removal} → Balanced (j .nvp) (jobArea j) (countT j) (countV j) m log → Suits (siteOf v t) (j .nvp) m
   suits b = record {
     sound = b .sound;
-    least = r .passed .nvp-low;
-    most = r .passed .nvp-high;
-    vertices = omega (arith, b .vertices, r .vertices);
-    spares = omega (arith, b .spares, r .triangles);
+    least = r .job .passed .nvp-low;
+    most = r .job .passed .nvp-high;
+    vertices = omega (arith, b .vertices, r .job .vertices);
+    spares = omega (arith, b .spares, r .job .triangles);
     v-few = omega (arith, ready-sized .v-most);
     t-few = omega (arith, ready-sized .v-most, ready-sized .t-most);
   }
@@ -111,10 +114,10 @@ module _ {u₀ : List ℕ} {v t : ℕ} {j : Job} (r : Ready u₀ v t j) where
           polygons = omega arith;
           scratch = omega (arith, l, r .size, ready-sized .t-most);
         };
-        ls = r .ls;
-        passed = r .passed;
-        v = r .vertices;
-        t = r .triangles;
+        ls = r .job .ls;
+        passed = r .job .passed;
+        v = r .job .vertices;
+        t = r .job .triangles;
       }
 
   -- the mesh m, of nv vertices and np polygons, came of the contours and stands in u₁
@@ -132,7 +135,7 @@ module _ {u₀ : List ℕ} {v t : ℕ} {j : Job} (r : Ready u₀ v t j) where
         }
 
   -- a contour has no ear
-  pub no-ear-in-contour : {c k : ℕ} {u : List ℕ} → addAll j ≡ noEarIn c k → length u ≡ wordsOf v → MeshedTo u v t j (Refused (NoEarInContour c))
+  pub no-ear-in-contour : {c k : ℕ} {u : List ℕ} → addAll j ≡ noEarIn c k → length u ≡ usedOf v t → MeshedTo u v t j (Refused (NoEarInContour c))
   unfolding cleared replyOf
   no-ear-in-contour {c} e l = record {
     answer = rw e;
@@ -141,9 +144,9 @@ module _ {u₀ : List ℕ} {v t : ℕ} {j : Job} (r : Ready u₀ v t j) where
   }
 
   -- the contours became a mesh
-  module _ {m : Mesh} (e : addAll j ≡ added m) {u₁ : List ℕ} (d : u₁ ≡ groundIn (wordsOf v) (groundOf v t) m) where
+  module _ {m : Mesh} (e : addAll j ≡ added m) {u₁ : List ℕ} (d : u₁ ≡ groundIn (usedOf v t) (groundOf v t) m) where
     balanced : Balanced (j .nvp) (jobArea j) (countT j) (countV j) m []
-    balanced = all-added j (r .ls) m (r .passed) e
+    balanced = all-added j (r .job .ls) m (r .job .passed) e
 
     try-ready : {n : Counts} → n ≡ countsOf m → Stands u₁ (siteOf v t) n (j .nvp)
     try-ready q = rw q (ground-stands ready-sized (suits balanced) d)
@@ -151,11 +154,11 @@ module _ {u₀ : List ℕ} {v t : ℕ} {j : Job} (r : Ready u₀ v t j) where
     try-read : {n : Counts} → n ≡ countsOf m → meshAt u₁ (siteOf v t) n ≡ m
     try-read q = ap (meshAt u₁ (siteOf v t)) q ∙ ground-read ready-sized (suits balanced) d
 
-    long : length u₁ ≡ wordsOf v
+    long : length u₁ ≡ usedOf v t
     long = ground-size ready-sized (suits balanced) d
 
     module _ {n : Counts} (q : n ≡ countsOf m) {u₂ : List ℕ} (f : u₂ ≡ meshIn u₁ (siteOf v t) (meshLeft (removeAll (j .nvp) (meshAt u₁ (siteOf v t) n)))) where
-      long-now : length u₂ ≡ wordsOf v
+      long-now : length u₂ ≡ usedOf v t
       long-now = ap length f ∙ length-in u₁ (siteOf v t) (meshLeft (removeAll (j .nvp) (meshAt u₁ (siteOf v t) n))) ∙ long
 
       -- what it comes to, where x is what the removals come to
@@ -181,8 +184,8 @@ module _ {u₀ : List ℕ} {v t : ℕ} {j : Job} (r : Ready u₀ v t j) where
         left-balanced : Balanced (j .nvp) (jobArea j) (countT j) (countV j) o (left .log)
         unfolding removeAll o
         left-balanced =
-            removals (length (m .vertices)) (j .nvp) 0 (jobArea j) (countT j) (countV j) m [] (left .mesh) (left .log) (r .passed .nvp-low)
-            (omega (arith, r .vertices, r .triangles, ready-sized .v-most, ready-sized .t-most)) (omega arith) balanced (left .is)
+            removals (length (m .vertices)) (j .nvp) 0 (jobArea j) (countT j) (countV j) m [] (left .mesh) (left .log) (r .job .passed .nvp-low)
+            (omega (arith, r .job .vertices, r .job .triangles, ready-sized .v-most, ready-sized .t-most)) (omega arith) balanced (left .is)
 
         left-in : u₂ ≡ meshIn u₁ (siteOf v t) o
         unfolding meshLeft o

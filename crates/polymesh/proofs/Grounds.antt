@@ -17,7 +17,7 @@ use Rattle.contours.specs.Ground.{groundIn}
 use Rattle.removals.specs.Site.{meshAt, scratchRoom, standing, meshIn, Fits, Stands}
 use Rattle.removals.specs.Removing.{countsOf}
 use Rattle.removals.specs.Standing.{Suits, size-vertices, size-polygons, mesh-read, stands-of}
-use Rattle.polymesh.specs.Layout.{Sized, wordsOf, polygonsOf, scratchOf, groundOf, siteOf}
+use Rattle.polymesh.specs.Layout.{Sized, usedOf, polygonsOf, scratchOf, groundOf, siteOf}
 
 -- words written over zeros
 over-zeros : (n : ℕ) (xs : List ℕ) → length xs ≤ n → splice (replicate n 0) 0 xs ≡ withZeros n xs
@@ -29,9 +29,9 @@ part-over : (w : List ℕ) (a n : ℕ) (xs : List ℕ) → view w a n ≡ replic
 part-over w a n xs z h =
     ap (λ (j : ℕ). view (splice w j xs) a n) (sym (add-zero a)) ∙ view-around w a 0 n xs (omega arith) ∙ ap (λ (l : List ℕ). splice l 0 xs) z ∙ over-zeros n xs h
 
-module _ {v t nvp : ℕ} (z : Sized v t) {m : Mesh} (k : Suits (siteOf v t) nvp m) {u : List ℕ} (e : u ≡ groundIn (wordsOf v) (groundOf v t) m) where
+module _ {v t nvp : ℕ} (z : Sized v t) {m : Mesh} (k : Suits (siteOf v t) nvp m) {u : List ℕ} (e : u ≡ groundIn (usedOf v t) (groundOf v t) m) where
   blank : List ℕ
-  blank = replicate (wordsOf v) 0
+  blank = replicate (usedOf v t) 0
 
   F : List ℕ
   F = firsts (keyOf (m .vertices)) bucketCount (length (m .vertices))
@@ -66,9 +66,9 @@ module _ {v t nvp : ℕ} (z : Sized v t) {m : Mesh} (k : Suits (siteOf v t) nvp 
   unfolding groundIn tabled shelved blank F R N P
   is = e
 
-  zero-at : (a n : ℕ) → a + n ≤ wordsOf v → view blank a n ≡ replicate n 0
+  zero-at : (a n : ℕ) → a + n ≤ usedOf v t → view blank a n ≡ replicate n 0
   unfolding blank
-  zero-at a n h = view-replicate (wordsOf v) a n 0 h
+  zero-at a n h = view-replicate (usedOf v t) a n 0 h
 
   in-vertices : view u 4096 (v * vertexSize) ≡ withZeros (v * vertexSize) R
   in-vertices =
@@ -81,7 +81,7 @@ module _ {v t nvp : ℕ} (z : Sized v t) {m : Mesh} (k : Suits (siteOf v t) nvp 
   tables = splice (splice (splice blank 0 F) 4096 R) (4096 + 5 * v) N
 
   -- behind the tables there are zeros
-  behind : (a n : ℕ) → polygonsOf v ≤ a → a + n ≤ wordsOf v → view tables a n ≡ replicate n 0
+  behind : (a n : ℕ) → polygonsOf v ≤ a → a + n ≤ usedOf v t → view tables a n ≡ replicate n 0
   unfolding tables
   behind a n h f =
       view-after _ (4096 + 5 * v) a n N (omega (arith, long-N, k .vertices))
@@ -102,7 +102,7 @@ module _ {v t nvp : ℕ} (z : Sized v t) {m : Mesh} (k : Suits (siteOf v t) nvp 
       ∙ view-after tables (polygonsOf v) (scratchOf v t) (t * scratchRoom) P (omega (arith, long-P))
       ∙ behind (scratchOf v t) (t * scratchRoom) (omega arith) (omega (arith, z .t-most)) ∙ sym (no-words (t * scratchRoom))
 
-  pub ground-size : length u ≡ wordsOf v
+  pub ground-size : length u ≡ usedOf v t
   unfolding blank
   ground-size = ap length is ∙ simp (length-splice, length-replicate)
 

@@ -24,10 +24,9 @@ use Rattle.rules.specs.declared.Reply.{Reply}
 use Rattle.rules.specs.declared.Reply.the-variants.{Refused}
 use Rattle.laws.specs.Checks.{Passed, checked, agreed}
 use Rattle.laws.specs.Widths.{written-fits}
-use Rattle.outputs.specs.Ready.{buffers}
 use Rattle.polymesh.specs.Layout.{wordsOf}
-use Rattle.polymesh.specs.Gather.{Ready, comesTo}
-use Rattle.polymesh.specs.Build.{Room, BuildReady, BuiltTo}
+use Rattle.polymesh.specs.Gather.{Admitted, comesTo}
+use Rattle.polymesh.specs.Build.{Room, BuildReady, lending, BuiltTo}
 use Rattle.polymesh.proofs.Builds.{quiet}
 
 -- ---- a check that refuses writes nothing
@@ -82,13 +81,8 @@ refused-all h j b {r} e = (rw e, sym (ap (λ (c : Checked). exitOf j b (afterChe
 pub prefix-back : (w ys : List ℕ) (n : ℕ) → length ys ≡ n → n ≤ length w → ys ++ drop n w ≡ splice w 0 ys
 prefix-back w ys n e h = sym (splice-eq w 0 ys (omega arith) ∙ ap (λ (k : ℕ). ys ++ drop k w) (zero-add (length ys) ∙ e))
 
--- the buffers b, of which another work buffer is lent
-abbrev pub lending : Lent → List ℕ → Lent
-lending b x = buffers (b .vertices) (b .polygons) (b .neighbours) (b .regions) (b .codes) (b .flags) x
-
-pub ready-passed : (j : Job) (ls : List ℕ) {v t : ℕ} {part : List ℕ} → check j ls ≡ passed → v ≡ countV j → t ≡ countT j → length part ≡ wordsOf v
-    → Ready part v t j
-ready-passed j ls p a c l = record { size = l; ls = ls; passed = checked j ls p; vertices = a; triangles = c }
+pub admitted : (j : Job) (ls : List ℕ) {v t : ℕ} → check j ls ≡ passed → v ≡ countV j → t ≡ countT j → Admitted v t j
+admitted j ls p a c = record { ls = ls; passed = checked j ls p; vertices = a; triangles = c }
 
 pub few-contours : (j : Job) (ls : List ℕ) → check j ls ≡ passed → length (j .lengths) ≤ 65535
 few-contours j ls p = agreed j (checked j ls p .agree) .contours
@@ -121,9 +115,12 @@ module _ (j : Job) (b : Lent) (p : check j (lengthsOf b) ≡ passed) {v t : ℕ}
 
   pub build-ready : Widths j → BuildReady v t j (lending b part)
   build-ready w = record {
-    ready = ready-passed j (lengthsOf b) p a c l;
-    room = room;
-    fits = λ m ks log e. written-fits j b m ks log w (came-to ∙ e);
+    size = l;
+    ready = record {
+      job = admitted j (lengthsOf b) p a c;
+      room = room;
+      fits = λ m ks log e. written-fits j b m ks log w (came-to ∙ e);
+    };
   }
 
   -- what a build leaves in the part of the work buffer, and in all of it

@@ -8,10 +8,12 @@ use Rattle.rules.specs.Removal.{Removal}
 use Rattle.rules.specs.Job.{Job}
 use Rattle.rules.specs.Checks.{Lent, vertexStride}
 use Rattle.rules.specs.Build.{built, replyOf}
-use Rattle.rules.specs.Exits.{exitOf}
+use Rattle.rules.specs.Exits.{wiped, exitOf}
 use Rattle.rules.specs.Widths.{Fits}
 use Rattle.rules.specs.declared.Reply.{Reply}
-use Rattle.polymesh.specs.Gather.{Ready, comesTo}
+use Rattle.outputs.specs.Ready.{buffers}
+use Rattle.polymesh.specs.Layout.{wordsOf, usedOf}
+use Rattle.polymesh.specs.Gather.{Admitted, comesTo}
 
 -- there is room for v vertices and t polygons in the six buffers
 pub record Room (v t nvp : ℕ) (b : Lent) : Type 0 where
@@ -22,11 +24,30 @@ pub record Room (v t nvp : ℕ) (b : Lent) : Type 0 where
   pub codes : t ≤ length (b .codes)
   pub flags : t ≤ length (b .flags)
 
--- the job j passed the checks, its numbers fit their words, and b's work buffer has just the words that a build of it uses
-pub record BuildReady (v t : ℕ) (j : Job) (b : Lent) : Type 0 where
-  pub ready : Ready (b .work) v t j
+-- the job j passed the checks, and its numbers fit their words
+pub record JobReady (v t : ℕ) (j : Job) (b : Lent) : Type 0 where
+  pub job : Admitted v t j
   pub room : Room v t (j .nvp) b
   pub fits : (m : Mesh) (links : List (List ℕ)) (log : List Removal) → comesTo j ≡ built m links log → Fits m links
+
+-- the same, and b's work buffer has just the words that are lent for a build of it
+pub record BuildReady (v t : ℕ) (j : Job) (b : Lent) : Type 0 where
+  pub size : length (b .work) ≡ wordsOf v
+  pub ready : JobReady v t j b
+
+-- or just those that it uses
+pub record MakeReady (v t : ℕ) (j : Job) (b : Lent) : Type 0 where
+  pub size : length (b .work) ≡ usedOf v t
+  pub ready : JobReady v t j b
+
+-- the buffers b, of which another work buffer is lent
+abbrev pub lending : Lent → List ℕ → Lent
+lending b x = buffers (b .vertices) (b .polygons) (b .neighbours) (b .regions) (b .codes) (b .flags) x
+
+-- r is the build's reply, and the six other buffers of b became those of u, what the rules say that they hold at the end; the work buffer is to be wiped
+pub record MadeTo (j : Job) (b u : Lent) (r : Reply) : Type 0 where
+  pub answer : r ≡ replyOf (comesTo j)
+  pub exit : (w : List ℕ) → lending u (wiped j w) ≡ exitOf j (lending b w) (comesTo j)
 
 -- r is the build's reply, and the buffers b became u, what the rules say that they hold at the end
 pub record BuiltTo (j : Job) (b u : Lent) (r : Reply) : Type 0 where

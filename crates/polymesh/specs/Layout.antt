@@ -10,9 +10,13 @@ pub record Sized (v t : ℕ) : Type 0 where
   pub v-most : v ≤ 65535
   pub t-most : t ≤ v
 
--- how many words a build uses: "4,096 + 128·V"
+-- how many words are lent for a build: "4,096 + 128·V"
 abbrev pub wordsOf : ℕ → ℕ
 wordsOf v = 4096 + 128 * v
+
+-- how many of them it uses: the weld's tables, the polygons, and scratch for a contour, for a removal or for the links
+abbrev pub usedOf : ℕ → ℕ → ℕ
+usedOf v t = 4096 + 13 * v + 51 * t
 
 abbrev pub polygonsOf : ℕ → ℕ
 polygonsOf v = 4096 + 6 * v

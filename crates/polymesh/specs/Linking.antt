@@ -15,7 +15,7 @@ use Rattle.removals.specs.Site as Removals
 use Rattle.removals.specs.Site.{meshAt}
 use Rattle.outputs.specs.declared.store.Places.{Places}
 use Rattle.outputs.specs.Stored as Outputs
-use Rattle.polymesh.specs.Layout.{Sized, wordsOf, polygonsOf, siteOf, edgeTablesOf, linkPlaceOf}
+use Rattle.polymesh.specs.Layout.{Sized, usedOf, polygonsOf, siteOf, edgeTablesOf, linkPlaceOf}
 
 -- where the mesh and its links stand
 abbrev pub placesOf : ℕ → ℕ → Counts → Places
@@ -28,7 +28,7 @@ linksWith w h border m = portals (m .vertices) w h border (m .polygons) (linksOf
 -- the mesh stands where the removals leave it, and its polygons have numbers below 65,535
 pub record LinkableReady (u : List ℕ) (v t : ℕ) (n : Counts) : Type 0 where
   pub sized : Sized v t
-  pub room : wordsOf v ≤ length u
+  pub room : usedOf v t ≤ length u
   pub stands : Removals.Stands u (siteOf v t) n mostCorners
   pub few : n .polygons < none
 

@@ -4,11 +4,12 @@ ghost use Prim.Native.Nat.{ℕ};
 ghost use lib.ListN.{length, replicate};
 ghost use Rattle.checks.specs.Answers.{jobOf};
 ghost use Rattle.outputs.specs.Ready.{buffers};
-ghost use Rattle.polymesh.specs.Gather.{Ready, MeshedTo};
-ghost use Rattle.polymesh.specs.Build.{BuildReady, BuiltTo};
+ghost use Rattle.polymesh.specs.Gather.{Admitted, Ready, MeshedTo};
+ghost use Rattle.polymesh.specs.Build.{BuildReady, MakeReady, MadeTo, BuiltTo};
 use crate::layout::ground;
 use crate::layout::places;
 use crate::layout::site;
+use crate::layout::used_words;
 use crate::link::link_mesh;
 use contours::gather::Gathered;
 use contours::gather::add_contours;
@@ -28,7 +29,7 @@ fn wipe(work: &mut [u32])
     fill(work, 0, all, 0);
 }
 
-// A job with these numbers has passed the checks, and the work buffer has as many words as it needs: the contours become a
+// A job with these numbers has passed the checks, and the work buffer has as many words as it uses: the contours become a
 // mesh there, and the marked vertices are tried. The result is the build's reply, and with a mesh it stands there.
 fn gather_mesh(
     work: &mut [u32],
@@ -65,9 +66,9 @@ fn gather_mesh(
     }
 }
 
-// The job's mesh is built in the work buffer, which has just the words for it, and goes into the six other buffers; or a
-// contour or a hole has no ear to cut. Zeros are left in the work buffer.
-pub fn build(
+// The job's mesh is made in the work buffer, which has just the words that it uses, and goes into the six other buffers; or
+// a contour or a hole has no ear to cut.
+fn make_mesh(
     v: usize,
     t: usize,
     nvp: usize,
@@ -86,12 +87,11 @@ pub fn build(
     flags: &mut [u16],
     work: &mut [u32],
 ) -> Reply
-    requires { ⌜ ((x y z : ℕ) → Ready (now work) v t (jobOf nvp x y z (now lengths) (now regions) (now codes) (now numbers))) × BuildReady v t (jobOf nvp w h border (now lengths) (now regions) (now codes) (now numbers)) (buffers (now vertices) (now polygons) (now neighbours) (now polyregions) (now polycodes) (now flags) (now work)) ⌝ }
-    ensures { λ r. ⌜ BuiltTo (jobOf nvp w h border (now (lengths .entry)) (now (regions .entry)) (now (codes .entry)) (now (numbers .entry))) (buffers (now (vertices .entry)) (now (polygons .entry)) (now (neighbours .entry)) (now (polyregions .entry)) (now (polycodes .entry)) (now (flags .entry)) (now (work .entry))) (buffers (now (vertices .exit)) (now (polygons .exit)) (now (neighbours .exit)) (now (polyregions .exit)) (now (polycodes .exit)) (now (flags .exit)) (now (work .exit))) r ⌝ }
+    requires { ⌜ ((x y z : ℕ) → Admitted v t (jobOf nvp x y z (now lengths) (now regions) (now codes) (now numbers))) × MakeReady v t (jobOf nvp w h border (now lengths) (now regions) (now codes) (now numbers)) (buffers (now vertices) (now polygons) (now neighbours) (now polyregions) (now polycodes) (now flags) (now work)) ⌝ }
+    ensures { λ r. ⌜ MadeTo (jobOf nvp w h border (now (lengths .entry)) (now (regions .entry)) (now (codes .entry)) (now (numbers .entry))) (buffers (now (vertices .entry)) (now (polygons .entry)) (now (neighbours .entry)) (now (polyregions .entry)) (now (polycodes .entry)) (now (flags .entry)) (now (work .entry))) (buffers (now (vertices .exit)) (now (polygons .exit)) (now (neighbours .exit)) (now (polyregions .exit)) (now (polycodes .exit)) (now (flags .exit)) (now (work .exit))) r ⌝ }
 {
     match gather_mesh(work, v, t, nvp, lengths, regions, codes, numbers) {
         Reply::Refused(r) => {
-            wipe(work);
             return Reply::Refused(r);
         }
         Reply::Built(np, nv) => {
@@ -112,8 +112,54 @@ pub fn build(
                 polycodes,
                 flags,
             );
-            wipe(work);
             return Reply::Built(np, nv);
         }
     }
+}
+
+// The same in the words that are lent for it, which are zeros at the end.
+pub fn build(
+    v: usize,
+    t: usize,
+    nvp: usize,
+    w: u16,
+    h: u16,
+    border: u16,
+    lengths: &[u32],
+    regions: &[u16],
+    codes: &[u8],
+    numbers: &[u16],
+    vertices: &mut [u16],
+    polygons: &mut [u16],
+    neighbours: &mut [u32],
+    polyregions: &mut [u16],
+    polycodes: &mut [u8],
+    flags: &mut [u16],
+    work: &mut [u32],
+) -> Reply
+    requires { ⌜ ((x y z : ℕ) → Admitted v t (jobOf nvp x y z (now lengths) (now regions) (now codes) (now numbers))) × BuildReady v t (jobOf nvp w h border (now lengths) (now regions) (now codes) (now numbers)) (buffers (now vertices) (now polygons) (now neighbours) (now polyregions) (now polycodes) (now flags) (now work)) ⌝ }
+    ensures { λ r. ⌜ BuiltTo (jobOf nvp w h border (now (lengths .entry)) (now (regions .entry)) (now (codes .entry)) (now (numbers .entry))) (buffers (now (vertices .entry)) (now (polygons .entry)) (now (neighbours .entry)) (now (polyregions .entry)) (now (polycodes .entry)) (now (flags .entry)) (now (work .entry))) (buffers (now (vertices .exit)) (now (polygons .exit)) (now (neighbours .exit)) (now (polyregions .exit)) (now (polycodes .exit)) (now (flags .exit)) (now (work .exit))) r ⌝ }
+{
+    let n = used_words(v, t);
+    let reply = make_mesh(
+        v,
+        t,
+        nvp,
+        w,
+        h,
+        border,
+        lengths,
+        regions,
+        codes,
+        numbers,
+        vertices,
+        polygons,
+        neighbours,
+        polyregions,
+        polycodes,
+        flags,
+        &mut work[..n],
+    );
+    wipe(work);
+    reply
 }

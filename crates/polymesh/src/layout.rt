@@ -2,7 +2,7 @@
 // behind them what each step needs, one step after the other in the same place.
 ghost use mathlib.Core.Path.{_≡_};
 ghost use Prim.Native.Nat.{_≤_};
-ghost use Rattle.polymesh.specs.Layout.{Sized, polygonsOf, scratchOf, groundOf, siteOf, edgeTablesOf, linkPlaceOf};
+ghost use Rattle.polymesh.specs.Layout.{Sized, usedOf, polygonsOf, scratchOf, groundOf, siteOf, edgeTablesOf, linkPlaceOf};
 ghost use Rattle.polymesh.specs.Linking.{placesOf};
 use contours::ground::Ground;
 use links::edges::EdgeTables;
@@ -27,6 +27,14 @@ fn scratch_at(v: usize, t: usize) -> usize
     ensures { λ r. ⌜ r ≡ scratchOf v t ⌝ }
 {
     polygons_at(v) + 18 * t
+}
+
+// How many words a build uses: behind the polygons, scratch for a contour, for a removal or for the links.
+pub fn used_words(v: usize, t: usize) -> usize
+    requires { ⌜ Sized v t ⌝ }
+    ensures { λ r. ⌜ r ≡ usedOf v t ⌝ }
+{
+    VERTICES + 13 * v + 51 * t
 }
 
 // For the contours.

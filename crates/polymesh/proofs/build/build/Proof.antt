@@ -1,41 +1,29 @@
--- `polymesh::build::build` meets its contract: with a mesh it is linked and stored, without one nothing is, and zeros are left. Assumes nothing.
-use mathlib.Core.Path.{_∙_}
-use Rattle.polymesh.proofs.Gathers.{ready-sized}
-use Rattle.polymesh.proofs.Builds.{refused-exit, linkable, storable, built-exit}
+-- `polymesh::build::build` meets its contract: the mesh is made in the words that it uses, and all that were lent become zeros. Assumes nothing.
+use mathlib.Core.Path.{sym, _∙_}
+use lib.Seq.{length-take-le}
+use Rattle.polymesh.proofs.Gathers.{admitted-sized}
+use Rattle.polymesh.proofs.Builds.{used-fits, make-ready, made-built}
 use borrow.Author.Needs.{needs}
 use Rattle.polymesh.proofs.build.build.Statement.{statement}
 use Rattle.polymesh.proofs.build.build.Tie as tie
 
-gather-mesh-requires : tie.Need-gather-mesh-requires
-gather-mesh-requires c κs = search needs
+used-words-requires : tie.Need-used-words-requires
+used-words-requires c κs = admitted-sized (c .before .before .before .before .before .before .before .before .before .before .before .pre .1 .ready .job)
 
-enum-known-r : tie.Need-enum-known-r
-enum-known-r c = search needs
+slice-relend-prefix-make-mesh : tie.Need-slice-relend-prefix-make-mesh
+slice-relend-prefix-make-mesh c = used-fits (c .before .before .before .before .before .before .before .before .before .before .before .before .before .before .before .before .before .before .pre .1) (c .before .before .before .before .before .before .used-words .ensures)
+
+slice-aggregate-make-mesh : tie.Need-slice-aggregate-make-mesh
+slice-aggregate-make-mesh c = sym (length-take-le _ (c .before .before .before .before .before .before .before .before .before .before .before .before .before .before .before .before .before .before .before .args .work .now) (used-fits (c .before .before .before .before .before .before .before .before .before .before .before .before .before .before .before .before .before .before .before .pre .1) (c .before .before .before .before .before .before .before .used-words .ensures)))
+
+make-mesh-requires : tie.Need-make-mesh-requires
+make-mesh-requires c κs = let s = c .before .before .before .before .before .before .before .before .before .before .before .before .before .before .before .before .before .before .before in let n = c .before .before .before .before .before .before .before .used-words .ensures in (s .pre .0, make-ready (s .pre .1) _ (length-take-le _ (s .args .work .now) (used-fits (s .pre .1) n) ∙ n))
 
 wipe-requires : tie.Need-wipe-requires
 wipe-requires c κs = search needs
 
 same-length : tie.Need-same-length
 same-length c = search needs
-
-returns : tie.Need-returns
-returns c = refused-exit (c .before .before .before .before .before .before .before .before .before .before .before .before .before .before .before .before .before .before .before .before .before .before .pre .1) (c .before .before .before .before .before .before .before .before .before .gather-mesh .ensures _ _ _) (c .before .before .before .before .before .r .given .1) (c .before .before .wipe .ensures)
-
-enum-known-np : tie.Need-enum-known-np
-enum-known-np c = search needs
-
-places-requires : tie.Need-places-requires
-places-requires c κs = ready-sized (c .before .before .before .before .before .before .before .before .before .before .before .before .before .before .before .before .before .before .pre .1 .ready)
-
-link-mesh-requires : tie.Need-link-mesh-requires
-link-mesh-requires c κs = linkable (c .before .before .before .before .before .before .before .before .before .before .before .before .before .before .before .before .before .before .before .before .pre .1) (c .before .before .before .before .before .before .before .gather-mesh .ensures _ _ _) (c .before .before .before .np .given .1)
-
-store-mesh-requires : tie.Need-store-mesh-requires
-store-mesh-requires c κs =
-    storable (c .before .before .before .before .before .before .before .before .before .before .before .before .before .before .before .before .before .before .before .before .before .before .before .before .before .before .before .before .before .before .pre .1) (c .before .before .before .before .before .before .before .before .before .before .before .before .before .before .before .before .before .gather-mesh .ensures _ _ _) (c .before .before .before .before .before .before .before .before .before .before .before .before .before .np .given .1) (c .before .before .before .before .before .before .before .before .before .link-mesh .ensures) (c .before .before .before .before .before .before .before .before .before .before .before .places .ensures)
-
-wipe-requires-2 : tie.Need-wipe-requires-2
-wipe-requires-2 c κs = search needs
 
 same-length-2 : tie.Need-same-length-2
 same-length-2 c = search needs
@@ -55,33 +43,27 @@ same-length-6 c = search needs
 same-length-7 : tie.Need-same-length-7
 same-length-7 c = search needs
 
-same-length-8 : tie.Need-same-length-8
-same-length-8 c = c .before .before .wipe2 .kept .0 ∙ c .before .before .before .before .before .before .before .before .before .before .before .before .before .before .before .before .before .before .before .before .before .before .before .before .before .before .link-mesh .kept .0 ∙ c .before .before .before .before .before .before .before .before .before .before .before .before .before .before .before .before .before .before .before .before .before .before .before .before .before .before .before .before .before .before .before .before .before .before .gather-mesh .kept .0
-
-returns-2 : tie.Need-returns-2
-returns-2 c =
-    built-exit (c .before .before .before .before .before .before .before .before .before .before .before .before .before .before .before .before .before .before .before .before .before .before .before .before .before .before .before .before .before .before .before .before .before .before .before .before .before .before .before .before .before .before .before .before .before .before .before .pre .1) (c .before .before .before .before .before .before .before .before .before .before .before .before .before .before .before .before .before .before .before .before .before .before .before .before .before .before .before .before .before .before .before .before .before .before .gather-mesh .ensures _ _ _) (c .before .before .before .before .before .before .before .before .before .before .before .before .before .before .before .before .before .before .before .before .before .before .before .before .before .before .before .before .before .before .np .given .1) (c .before .before .before .before .before .before .before .before .before .before .before .before .before .before .before .before .before .before .before .before .before .before .before .before .before .before .link-mesh .ensures) (c .before .before .before .before .before .before .before .before .before .before .before .before .before .before .before .before .before .before .before .before .before .before .before .before .before .before .before .before .places .ensures)
-    (c .before .before .before .before .before .before .before .before .before .before .before .before .before .before .before .before .store-mesh .ensures) (c .before .before .wipe2 .ensures)
+returns : tie.Need-returns
+returns c =
+    let k = c .before .before .before .before .before .before .before .before .before .before .before .before .before .before .before .before .before .before in
+    let s = k .before .before .before .before .before .before .before .before .before .before .before .before .before .before .before .before .before .before .before .before in
+    let f = used-fits (s .pre .1) (k .before .before .before .before .before .before .before .before .used-words .ensures) in
+    made-built (s .pre .1) _ (k .make-mesh .ensures) (k .make-mesh .last .1 .1 .1 .1 .1 .1 .1 .1 .1 .1 .1 .1 .1 .1 .1 .1 .0) _ (k .make-mesh .kept .1 .1 .1 .1 .1 .1 .1 .1 .1 .1 .1 .1 .1 .1 .1 .1 .0 ∙ length-take-le _ (s .args .work .now) f) f (c .before .before .wipe .ensures)
 
 pub build-spec : {M : Type 1} → statement M
 build-spec =
     tie.close
     (tie.spec
-    gather-mesh-requires
-    enum-known-r
+    used-words-requires
+    slice-relend-prefix-make-mesh
+    slice-aggregate-make-mesh
+    make-mesh-requires
     wipe-requires
     same-length
-    returns
-    enum-known-np
-    places-requires
-    link-mesh-requires
-    store-mesh-requires
-    wipe-requires-2
     same-length-2
     same-length-3
     same-length-4
     same-length-5
     same-length-6
     same-length-7
-    same-length-8
-    returns-2)
+    returns)

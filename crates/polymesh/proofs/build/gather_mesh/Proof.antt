@@ -1,7 +1,7 @@
 -- `polymesh::build::gather_mesh` meets its contract: the mesh that the contours leave is what the removals ask for, and each way out is one of the rules'. Assumes nothing.
 use mathlib.Core.Path.{refl, _∙_}
 use Rattle.contours.specs.Gathering.{same-contours}
-use Rattle.polymesh.proofs.Gathers.{ready-sized, gather-ready, came, was-no-ear, no-ear-in-contour, try-came, stuck-came, left-came}
+use Rattle.polymesh.proofs.Gathers.{admitted-sized, gather-ready, came, was-no-ear, no-ear-in-contour, try-came, stuck-came, left-came}
 use borrow.Author.Needs.{needs}
 use Rattle.polymesh.proofs.build.gather_mesh.Statement.{statement}
 use Rattle.polymesh.proofs.build.gather_mesh.Tie as tie
@@ -10,7 +10,7 @@ wipe-requires : tie.Need-wipe-requires
 wipe-requires c κs = search needs
 
 ground-requires : tie.Need-ground-requires
-ground-requires c κs = ready-sized (c .before .before .before .before .before .before .before .before .before .before .pre 0 0 0)
+ground-requires c κs = admitted-sized (c .before .before .before .before .before .before .before .before .before .before .pre 0 0 0 .job)
 
 add-contours-requires : tie.Need-add-contours-requires
 add-contours-requires c κs = rw (c .ground .ensures) (gather-ready (c .before .before .before .before .before .before .before .before .before .before .before .pre 0 0 0) (c .before .before .before .before .wipe .ensures))
@@ -30,7 +30,7 @@ enum-known-nv : tie.Need-enum-known-nv
 enum-known-nv c = search needs
 
 site-requires : tie.Need-site-requires
-site-requires c κs = ready-sized (c .before .before .before .before .before .before .before .before .before .before .before .before .before .before .before .before .before .before .pre 0 0 0)
+site-requires c κs = admitted-sized (c .before .before .before .before .before .before .before .before .before .before .before .before .before .before .before .before .before .before .pre 0 0 0 .job)
 
 remove-all-requires : tie.Need-remove-all-requires
 remove-all-requires c κs =

@@ -9,7 +9,7 @@ use Rattle.rules.specs.Checks.{lengthsOf, check, passed}
 use Rattle.checks.specs.Answers.{jobOf, is-passed, is-refusal}
 use Rattle.checks.specs.Sums.{v-is, t-is}
 use Rattle.outputs.specs.Ready.{buffers}
-use Rattle.polymesh.proofs.Meshes.{refused-all, few-contours, few-vertices, work-fits, ready-passed, build-ready, built-all}
+use Rattle.polymesh.proofs.Meshes.{refused-all, few-contours, few-vertices, work-fits, admitted, build-ready, built-all}
 use borrow.Author.Needs.{needs}
 use Rattle.polymesh.proofs.mesh.into_polygon_mesh.Statement.{statement}
 use Rattle.polymesh.proofs.mesh.into_polygon_mesh.Tie as tie
@@ -71,7 +71,7 @@ build-requires c κs =
     let n = c .before .before .before .before .before .before .before .work-words .ensures in
     let l = length-take-le _ (s .args .work .now) (work-fits (job s 0 0 0) (lent s) (p 0 0 0) (a ∙ sym (v-is (job s 0 0 0))) n) ∙ n in
     let j = job s (s .args .w) (s .args .h) (s .args .border) in (
-      λ x y z. ready-passed (job s x y z) (lengthsOf (lent s)) (p x y z) (a ∙ sym (v-is (job s x y z))) (t ∙ sym (t-is (job s x y z))) l,
+      λ x y z. admitted (job s x y z) (lengthsOf (lent s)) (p x y z) (a ∙ sym (v-is (job s x y z))) (t ∙ sym (t-is (job s x y z))),
       build-ready j (lent s) (p (s .args .w) (s .args .h) (s .args .border)) (a ∙ sym (v-is j)) (t ∙ sym (t-is j)) _ l (record {
         nvp = s .fits .nvp .fits;
         w = s .fits .w .fits;
