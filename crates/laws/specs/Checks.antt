@@ -199,3 +199,12 @@ T-far-below-V j = run-two (trianglesIn (j .lengths)) (pointsIn (j .lengths)) (λ
 
 pub T-below-V : (j : Job) → countT j ≤ countV j
 T-below-V j = ⊎-elim (λ (e : countT j ≡ 0). omega arith) (λ (h : countT j + 2 ≤ countV j). omega arith) (T-far-below-V j)
+
+-- V is at most what the lengths say
+pub V-below-all : (j : Job) → countV j ≤ countAll j
+unfolding countV countAll sumOver over
+V-below-all j = run-mono (pointsIn (j .lengths)) (λ k. getD (j .lengths) k 0) (λ k. less (leb 3 (getD (j .lengths) k 0)) (getD (j .lengths) k 0)) (length (j .lengths) - 0) 0
+  where
+    less : (b : Bool) (n : ℕ) → cond b n 0 ≤ n
+    less true n = omega arith
+    less false n = omega arith

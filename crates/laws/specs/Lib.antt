@@ -19,6 +19,8 @@ pub mod Checks
 pub mod Contours
 pub mod Build
 pub mod Reached
+pub mod Replies
+pub mod Buffers
 pub mod Links
 -- the statements of `rules`: Areas, Fuel, Widths, Exits, Sentences, Distance
 pub mod Laws

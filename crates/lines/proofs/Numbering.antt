@@ -4,16 +4,16 @@ use mathlib.Core.Path.{_≡_, refl, sym, ap, _∙_}
 use mathlib.Core.Bool.{Bool, true, false, cond}
 use mathlib.Core.List.{List, [], _∷_, _++_}
 use mathlib.Core.Logic.{⊎-elim, _≢_}
-use Prim.Native.Nat.{ℕ, zero, suc, _+_, _-_, _≤_, _<_}
+use Prim.Native.Nat.{ℕ, _+_, _-_, _≤_, _<_}
 use native.Mathlib.Nat.{sub-zero}
 use native.Mathlib.Omega.{arith}
 use lib.Dec.{ltb}
 use lib.ListN.{length, take, drop, getD, set, replicate, length-append, length-drop, length-set, drop-of-length-le}
-use lib.Seq.{take-all, append-snoc, set-at}
+use lib.Seq.{take-all}
 use borrow.Author.Tests.{lt-ltb, le-ltb}
 use Rattle.mem.specs.Slice.{view}
 use Rattle.mem.specs.Cases.{lt-or-le}
-use Rattle.mem.specs.Zeros.{withZeros, no-words}
+use Rattle.mem.specs.Zeros.{withZeros, no-words, zeros-at, zeros-set}
 use Rattle.rules.specs.Lines.{tabByte, isSameText, parts, Line, decimalIn, Numbers, numbers, malformed, withNumber, numbersIn, numbersOf}
 use Rattle.rules.specs.declared.Decimal.{Decimal}
 use Rattle.rules.specs.declared.Decimal.the-variants.{Value, Malformed}
@@ -55,29 +55,6 @@ in-over : (least : ℕ) (cs : Line) → 0 < length cs → numbersIn least [] cs 
 unfolding numbersIn
 in-over least [] h = absurd (omega arith)
 in-over least (c ∷ cs) h = refl
-
--- ---- numbers with zeros behind them
-zeros-one : (m j : ℕ) → _≡_ {A = ℕ} (getD (replicate m 0) j 0) 0
-zeros-one zero j = refl
-zeros-one (suc m) zero = refl
-zeros-one (suc m) (suc j) = zeros-one m j
-
-append-zeros : (xs : List ℕ) (m j : ℕ) → getD (xs ++ replicate m 0) j 0 ≡ getD xs j 0
-append-zeros [] m j = zeros-one m j
-append-zeros (x ∷ xs) m zero = refl
-append-zeros (x ∷ xs) m (suc j) = append-zeros xs m j
-
-zeros-at : (n : ℕ) (xs : List ℕ) (j : ℕ) → getD (withZeros n xs) j 0 ≡ getD xs j 0
-unfolding withZeros
-zeros-at n xs j = append-zeros xs (n - length xs) j
-
-zeros-set : (n : ℕ) (xs : List ℕ) (x : ℕ) → length xs < n → set (withZeros n xs) (length xs) x ≡ withZeros n (xs ++ (x ∷ []))
-unfolding withZeros
-zeros-set n xs x h =
-    let k = n - length xs - 1 in
-    let e : n - length xs ≡ suc k = omega arith in
-    let f : n - length (xs ++ (x ∷ [])) ≡ k = rw length-append (omega arith) in
-    rw (e, f) (set-at xs 0 (replicate k 0) x (length xs) refl ∙ sym (append-snoc xs x (replicate k 0)))
 
 -- ---- the cells of a line behind the tab at `at`; there are none behind its end
 unfoldable pub cellsFrom : List ℕ → ℕ → Line

@@ -13,7 +13,9 @@ use Rattle.rules.specs.Links.{noEdge, eachSide, recordSide, newest, joinedTo, j
 use Rattle.rules.specs.declared.Edge.{Edge}
 use Rattle.rules.specs.declared.Found.{Found}
 use Rattle.rules.specs.declared.Found.the-variants.{At, Nothing}
-use Rattle.laws.specs.Lists.{All, all-at, total}
+use Rattle.laws.specs.Lists.{All, none, more, all-at, total}
+use Rattle.laws.specs.Measures.{sparesIn}
+use Rattle.laws.specs.Merge.{Long}
 use Rattle.records.specs.Layout.{mostCorners, Small}
 use Rattle.links.specs.Ready.{cornersIn}
 
@@ -31,6 +33,12 @@ corners-up-to (p ∷ ps) h = omega (arith, h 0 (omega arith), corners-up-to ps (
 
 pub corners-most : (ps : List Polygon) → All Small ps → cornersIn ps ≤ length ps * mostCorners
 corners-most ps h = corners-up-to ps (λ i l. all-at h i noPolygon l)
+
+-- each polygon has two corners besides those beyond two
+pub corners-spares : {ps : List Polygon} → All Long ps → cornersIn ps ≡ sparesIn ps + 2 * length ps
+unfolding cornersIn total
+corners-spares none = omega arith
+corners-spares (more h a) = omega (arith, h, corners-spares a)
 
 module _ (ps : List Polygon) where
   one-more : (i j : ℕ) (es : List Edge) → length (recordSide ps i j es) ≤ length es + 1

@@ -6,8 +6,8 @@ use Prim.Native.Nat.{ℕ, zero, suc, _+_, _-_, _≤_, _<_}
 use native.Mathlib.Nat.{sub-zero, zero-sub}
 use native.Mathlib.Omega.{arith}
 use mathlib.Core.Logic.{⊎-elim}
-use lib.ListN.{length, take, drop, replicate, length-append, length-drop, length-replicate, replicate-append-replicate, drop-of-length-le}
-use lib.Seq.{take-at, drop-append-le, drop-append-add}
+use lib.ListN.{length, take, drop, getD, set, replicate, length-append, length-drop, length-replicate, replicate-append-replicate, drop-of-length-le}
+use lib.Seq.{take-at, drop-append-le, drop-append-add, append-snoc, set-at}
 use Rattle.mem.specs.Cases.{lt-or-le}
 use Rattle.mem.specs.Slice.{view, splice, splice-eq, splice-view}
 
@@ -101,3 +101,27 @@ zeros-behind n xs j k h f =
     let c = length-zeros n xs (omega arith) in
     let e : view w j k ≡ replicate k 0 = rw (zeros-rest n j xs h) (take-replicate {A = ℕ} k (n - j) 0 (omega arith)) in
     ap (splice w j) (sym e) ∙ splice-view w j k
+
+-- ---- one word
+
+zeros-one : (m j : ℕ) → _≡_ {A = ℕ} (getD (replicate m 0) j 0) 0
+zeros-one zero j = refl
+zeros-one (suc m) zero = refl
+zeros-one (suc m) (suc j) = zeros-one m j
+
+append-zeros : (xs : List ℕ) (m j : ℕ) → getD (xs ++ replicate m 0) j 0 ≡ getD xs j 0
+append-zeros [] m j = zeros-one m j
+append-zeros (x ∷ xs) m zero = refl
+append-zeros (x ∷ xs) m (suc j) = append-zeros xs m j
+
+pub zeros-at : (n : ℕ) (xs : List ℕ) (j : ℕ) → getD (withZeros n xs) j 0 ≡ getD xs j 0
+unfolding withZeros
+zeros-at n xs j = append-zeros xs (n - length xs) j
+
+pub zeros-set : (n : ℕ) (xs : List ℕ) (x : ℕ) → length xs < n → set (withZeros n xs) (length xs) x ≡ withZeros n (xs ++ (x ∷ []))
+unfolding withZeros
+zeros-set n xs x h =
+    let k = n - length xs - 1 in
+    let e : n - length xs ≡ suc k = omega arith in
+    let f : n - length (xs ++ (x ∷ [])) ≡ k = rw length-append (omega arith) in
+    rw (e, f) (set-at xs 0 (replicate k 0) x (length xs) refl ∙ sym (append-snoc xs x (replicate k 0)))

@@ -13,13 +13,14 @@ use Rattle.rules.specs.Removal.{Removal, Removals, removed, stuckAt, removeAll}
 use Rattle.rules.specs.Job.{Job, countV}
 use Rattle.rules.specs.Checks.{Lent, workWords}
 use Rattle.rules.specs.Replies.{writesNothing}
-use Rattle.rules.specs.Build.{Contours, added, noEarIn, Outcome, refused, built, linked, cleared, addAll, replyOf}
+use Rattle.rules.specs.Build.{Contours, added, noEarIn, Outcome, refused, built, linked, cleared, addAll}
 use Rattle.rules.specs.Exits.{wiped, onlyWiped, exitOf}
 use Rattle.rules.specs.Widths.{Fits}
 use Rattle.rules.specs.declared.Refusal.{Refusal}
 use Rattle.rules.specs.declared.Refusal.the-variants.{NoEarInContour, NoEarInHole}
 use Rattle.rules.specs.declared.Reply.{Reply}
 use Rattle.rules.specs.declared.Reply.the-variants.{Built, Refused}
+use Rattle.laws.specs.Replies.{WasBuilt, was-refused, was-built}
 use Rattle.laws.specs.Lists.{All, all-imp}
 use Rattle.laws.specs.Measures.{sparesIn}
 use Rattle.laws.specs.Merge.{Good, Below, polygons-few}
@@ -37,30 +38,6 @@ use Rattle.polymesh.specs.Gather.{Meshed, comesTo, MeshedTo}
 use Rattle.polymesh.specs.Linking.{placesOf, linksWith, LinkableReady, LinkedTo}
 use Rattle.polymesh.specs.Build.{BuildReady, MakeReady, lending, MadeTo, BuiltTo}
 use Rattle.polymesh.proofs.Gathers.{admitted-sized}
-
--- ---- what a reply says of the outcome
-
-IsRefused : Reply → Type 0
-IsRefused (Refused r) = Unit
-IsRefused (Built n k) = ⊥
-
-was-refused : (o : Outcome) (x : Refusal) → Refused x ≡ replyOf o → o ≡ refused x
-unfolding replyOf IsRefused
-was-refused (refused y) x e = cc
-was-refused (built m ls log) x e = absurd (subst IsRefused e tt)
-
-record WasBuilt (o : Outcome) (np nv : ℕ) : Type 0 where
-  mesh : Mesh
-  links : List (List ℕ)
-  log : List Removal
-  is : o ≡ built mesh links log
-  polygons : np ≡ length (mesh .polygons)
-  vertices : nv ≡ length (mesh .vertices)
-
-was-built : (o : Outcome) (np nv : ℕ) → Built np nv ≡ replyOf o → WasBuilt o np nv
-unfolding replyOf IsRefused
-was-built (refused y) np nv e = absurd (subst IsRefused (sym e) tt)
-was-built (built m ls log) np nv e = record { mesh = m; links = ls; log = log; is = refl; polygons = cc; vertices = cc }
 
 -- ---- a build refuses for want of an ear alone, and its links are those of its mesh
 

@@ -11,28 +11,22 @@ use Rattle.mem.specs.Packed.{every-at}
 use Rattle.mem.specs.Tab.{blocks-after}
 use Rattle.rules.specs.Plane.{InGrid, onPlane}
 use Rattle.rules.specs.Weld.{noVertex}
-use Rattle.rules.specs.Mesh.{Polygon, placeOf}
+use Rattle.rules.specs.Mesh.{placeOf}
 use Rattle.rules.specs.Links.{edgesOf, linksOf}
-use Rattle.laws.specs.Lists.{All, none, more, total, all-imp, every-of-all}
+use Rattle.laws.specs.Lists.{All, all-imp, every-of-all}
 use Rattle.laws.specs.Links.{links-shaped, portals-shaped}
-use Rattle.laws.specs.Measures.{sparesIn}
 use Rattle.laws.specs.Merge.{Good, Below, Long, polygons-few}
 use Rattle.records.specs.Layout.{vertexSize, vertexIn, verticesAt, Placed, polygonSize, mostCorners, polygonIn, polygonsAt, Small, linkSize}
 use Rattle.records.specs.Vertices.{length-vertices}
 use Rattle.records.specs.Polygons.{length-polygons}
 use Rattle.links.specs.Tables.{edged}
 use Rattle.links.specs.Ready.{cornersIn, LinkReady, linkRecords, linksAt, PortalReady, portalsAt}
+use Rattle.links.specs.Counts.{corners-spares}
 use Rattle.links.specs.Linked.{length-links, linked-size, linked-polygons, linked-links, linked-vertices, linked-ready, marked-links}
 use Rattle.removals.specs.declared.site.Counts.{Counts}
 use Rattle.removals.specs.Site.{meshAt}
 use Rattle.polymesh.specs.Layout.{polygonsOf, siteOf, edgeTablesOf, linkPlaceOf}
 use Rattle.polymesh.specs.Linking.{linksWith, LinkableReady, LinkedTo}
-
--- each polygon has two corners besides those beyond two
-corners-spares : {ps : List Polygon} → All Long ps → cornersIn ps ≡ sparesIn ps + 2 * length ps
-unfolding cornersIn total
-corners-spares none = omega arith
-corners-spares (more h a) = omega (arith, h, corners-spares a)
 
 module _ {u : List ℕ} {v t : ℕ} {n : Counts} (r : LinkableReady u v t n) where
   long : All Long (polygonsAt u (polygonsOf v) (n .polygons))

@@ -2,7 +2,7 @@
 -- stored vertices, have the contours' area, less what open removals took. It is a corollary of the contract of `into_polygon_mesh` alone: r and u are what that
 -- contract says of the answer and of the buffers at exit. Assumes nothing.
 -- Key: `ground-kept`.
-use mathlib.Core.Path.{_≡_, refl, sym, ap, ap₂, subst, _∙_}
+use mathlib.Core.Path.{_≡_, refl, sym, ap, ap₂, _∙_}
 use mathlib.Core.List.{List}
 use Prim.Native.Nat.{ℕ}
 use lib.ListN.{length}
@@ -11,13 +11,13 @@ use Rattle.rules.specs.Mesh.{Mesh}
 use Rattle.rules.specs.Removal.{Removal}
 use Rattle.rules.specs.Job.{Job}
 use Rattle.rules.specs.Checks.{Lent}
-use Rattle.rules.specs.Build.{Outcome, refused, built, outcome, replyOf, answer}
+use Rattle.rules.specs.Build.{built, outcome, answer}
 use Rattle.rules.specs.Exits.{exits, decoded}
 use Rattle.rules.specs.Areas.{sumOf, meshArea, storedArea, jobArea, areaTaken}
 use Rattle.rules.specs.declared.Header.{Header}
 use Rattle.rules.specs.declared.Answer.{Answer}
-use Rattle.rules.specs.declared.Reply.{Reply}
-use Rattle.rules.specs.declared.Reply.the-variants.{Built, Refused}
+use Rattle.rules.specs.declared.Reply.the-variants.{Built}
+use Rattle.laws.specs.Replies.{WasBuilt, was-built}
 use Rattle.laws.specs.Laws.{area-law}
 use Rattle.laws.specs.Exits.{reads-back}
 
@@ -29,30 +29,23 @@ pub record GroundKept (j : Job) (b u : Lent) (n k : ℕ) : Type 0 where
   pub comes : outcome j b ≡ built mesh links log
   pub area : storedArea (decoded (j .nvp) n k u) ≡ jobArea j -ℤ sumOf areaTaken log
 
-IsBuilt : Reply → Type 0
-IsBuilt (Built n k) = Unit
-IsBuilt (Refused r) = ⊥
-
 area-of : (m : Mesh) (ls : List (List ℕ)) → storedArea (record { vertices = m .vertices; polygons = m .polygons; links = ls }) ≡ meshArea m
 unfolding meshArea storedArea
 area-of m ls = refl
 
-from-outcome : (j : Job) (b u : Lent) (n k : ℕ) (o : Outcome) → outcome j b ≡ o → Built n k ≡ replyOf o → u ≡ exits j b → GroundKept j b u n k
-unfolding replyOf IsBuilt
-from-outcome j b u n k (refused r) q e d = absurd (subst IsBuilt e tt)
-from-outcome j b u n k (built m ls log) q e d =
-    let a : n ≡ length (m .polygons) = cc in
-    let c : k ≡ length (m .vertices) = cc in
+from-mesh : (j : Job) (b u : Lent) (n k : ℕ) → WasBuilt (outcome j b) n k → u ≡ exits j b → GroundKept j b u n k
+from-mesh j b u n k a d =
+    let m = a .mesh in
     record {
       mesh = m;
-      links = ls;
-      log = log;
-      comes = q;
-      area = ap storedArea (ap₂ (λ (x y : ℕ). decoded (j .nvp) x y u) a c ∙ ap (decoded (j .nvp) (length (m .polygons)) (length (m .vertices))) d
-          ∙ reads-back j b m ls log q) ∙ area-of m ls ∙ area-law j b m ls log q;
+      links = a .links;
+      log = a .log;
+      comes = a .is;
+      area = ap storedArea (ap₂ (λ (x y : ℕ). decoded (j .nvp) x y u) (a .polygons) (a .vertices) ∙ ap (decoded (j .nvp) (length (m .polygons)) (length (m .vertices))) d
+          ∙ reads-back j b m (a .links) (a .log) (a .is)) ∙ area-of m (a .links) ∙ area-law j b m (a .links) (a .log) (a .is);
     }
 
 pub ground-kept : (h : Header) (j : Job) (b : Lent) (r : Answer) (u : Lent) → r ≡ answer h j b → u ≡ exits j b
     → (n k : ℕ) → r .reply ≡ Built n k → GroundKept j b u n k
 unfolding answer
-ground-kept h j b r u e d n k q = from-outcome j b u n k (outcome j b) refl (sym q ∙ ap (λ (a : Answer). a .reply) e) d
+ground-kept h j b r u e d n k q = from-mesh j b u n k (was-built (outcome j b) n k (sym q ∙ ap (λ (a : Answer). a .reply) e)) d

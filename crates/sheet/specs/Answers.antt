@@ -1,6 +1,6 @@
 -- What the build's answer and its buffers at exit say of the mesh: the stored mesh is the rules' mesh, and it is ready to be printed. Assumes nothing.
 -- Key: `refused-text`, `built-text`: what is printed, by the build's reply; `text-room`: there is room for it.
-use mathlib.Core.Path.{_≡_, refl, sym, ap, subst, _∙_}
+use mathlib.Core.Path.{_≡_, refl, sym, ap, _∙_}
 use mathlib.Core.List.{List, [], _∷_, _++_, append-assoc}
 use Prim.Native.Nat.{ℕ, _+_, _*_, _≤_, _<_}
 use native.Mathlib.Nat.{le-trans, mul-le-mul-right, mul-le-mul-left}
@@ -11,58 +11,28 @@ use Rattle.mem.specs.Tab.{getD-tab}
 use Rattle.rules.specs.Plane.{InGrid, onPlane}
 use Rattle.rules.specs.Weld.{noVertex}
 use Rattle.rules.specs.Mesh.{Polygon, polygonAt, noPolygon, Mesh}
-use Rattle.rules.specs.Removal.{Removal}
 use Rattle.rules.specs.Lines.{numberLine}
 use Rattle.rules.specs.Job.{countAll}
 use Rattle.rules.specs.Checks.{Lent, vertexStride, lengthsOf}
 use Rattle.rules.specs.Replies.{refusalNumber, refusalSecond}
-use Rattle.rules.specs.Build.{Outcome, refused, built, outcome, replyOf, answer}
+use Rattle.rules.specs.Build.{outcome, replyOf, answer}
 use Rattle.rules.specs.Exits.{exits, Stored, vertexOf, upToNone, storedPolygon, storedLinks, decoded}
 use Rattle.rules.specs.Sheet.{declaredMost, Sheet, cellName, outcomeOf, refusedText, unitLine, meshText, builtText}
 use Rattle.rules.specs.declared.Header.{Header}
 use Rattle.rules.specs.declared.Answer.{Answer}
 use Rattle.rules.specs.declared.Refusal.{Refusal}
-use Rattle.rules.specs.declared.Reply.{Reply}
 use Rattle.rules.specs.declared.Reply.the-variants.{Built, Refused}
 use Rattle.laws.specs.Lists.{all-at}
 use Rattle.laws.specs.Removal.{Sound}
 use Rattle.laws.specs.Exits.{reads-back}
-use Rattle.laws.specs.Checks.{T-below-V}
+use Rattle.laws.specs.Checks.{T-below-V, V-below-all}
 use Rattle.laws.specs.Build.{bounded}
 use Rattle.laws.specs.Reached.{built-passed}
+use Rattle.laws.specs.Replies.{WasBuilt, was-refused, was-built}
 use Rattle.sheet.specs.Stored.{lentOf, MeshReady}
 use Rattle.sheet.specs.Rows.{topText}
-use Rattle.sheet.specs.Enough.{V-below-all, sheetLengths, sheet-enough}
+use Rattle.sheet.specs.Enough.{sheetLengths, sheet-enough}
 use Rattle.sheet.specs.Room.{outMost, built-room}
-
--- ---- the reply
-
-IsBuilt : Reply → Type 0
-IsBuilt (Built n k) = Unit
-IsBuilt (Refused r) = ⊥
-
-IsRefused : Reply → Type 0
-IsRefused (Built n k) = ⊥
-IsRefused (Refused r) = Unit
-
-pub refused-as : (o : Outcome) (r : Refusal) → Refused r ≡ replyOf o → o ≡ refused r
-unfolding replyOf IsRefused
-refused-as (refused q) r e = let z : q ≡ r = cc in ap refused z
-refused-as (built m ls log) r e = absurd (subst IsRefused e tt)
-
--- the mesh of an outcome whose reply counts n polygons and k vertices
-pub record BuiltAs (o : Outcome) (n k : ℕ) : Type 0 where
-  pub mesh : Mesh
-  pub links : List (List ℕ)
-  pub log : List Removal
-  pub is : o ≡ built mesh links log
-  pub polygons : n ≡ length (mesh .polygons)
-  pub vertices : k ≡ length (mesh .vertices)
-
-pub built-as : (o : Outcome) (n k : ℕ) → Built n k ≡ replyOf o → BuiltAs o n k
-unfolding replyOf IsBuilt
-built-as (refused r) n k e = absurd (subst IsBuilt e tt)
-built-as (built m ls log) n k e = record { mesh = m; links = ls; log = log; is = refl; polygons = cc; vertices = cc }
 
 -- ---- the stored mesh
 
@@ -140,7 +110,7 @@ module _ {s : Sheet} {x : Header} {b : Lent} {q : Answer} {u : Lent} (c : Called
 
   pub refused-text : (r : Refusal) → q .reply ≡ Refused r → builtText s (outcomeOf (s .job)) ≡ refusedText (refusalNumber r) (refusalSecond r)
   unfolding builtText
-  refused-text r e = ap (builtText s) (came-to ∙ refused-as (outcome (s .job) b) r (sym e ∙ replied))
+  refused-text r e = ap (builtText s) (came-to ∙ was-refused (outcome (s .job) b) r (sym e ∙ replied))
 
   -- the mesh that stands in the buffers
   pub record BuiltText (n k : ℕ) : Type 0 where
@@ -150,7 +120,7 @@ module _ {s : Sheet} {x : Header} {b : Lent} {q : Answer} {u : Lent} (c : Called
     pub most : s .job .nvp ≤ 12
     pub ready : length (u .polygons) ≡ 1152 → length (u .vertices) ≡ 288 → MeshReady (s .job .nvp) n k (u .vertices) (u .polygons)
 
-  from-mesh : (n k : ℕ) → BuiltAs (outcome (s .job) b) n k → BuiltText n k
+  from-mesh : (n k : ℕ) → WasBuilt (outcome (s .job) b) n k → BuiltText n k
   unfolding builtText topText
   from-mesh n k a =
       let j = s .job in
@@ -172,4 +142,4 @@ module _ {s : Sheet} {x : Header} {b : Lent} {q : Answer} {u : Lent} (c : Called
       }
 
   pub built-text : (n k : ℕ) → q .reply ≡ Built n k → BuiltText n k
-  built-text n k e = from-mesh n k (built-as (outcome (s .job) b) n k (sym e ∙ replied))
+  built-text n k e = from-mesh n k (was-built (outcome (s .job) b) n k (sym e ∙ replied))

@@ -29,10 +29,9 @@ use Rattle.laws.specs.Lists.{All, all-at}
 use Rattle.laws.specs.Merge.{Good, Below}
 use Rattle.laws.specs.Build.{bounded}
 use Rattle.laws.specs.Links.{Shaped, links-shaped, portals-shaped}
-use Rattle.laws.specs.Checks.{T-below-V}
+use Rattle.laws.specs.Checks.{T-below-V, V-below-all}
 use Rattle.laws.specs.Reached.{built-links, built-passed}
 use Rattle.rules.specs.Links.{linksOf}
-use Rattle.sheet.specs.Enough.{V-below-all}
 
 -- how many bytes an output has
 abbrev pub outMost : ℕ
