@@ -36,7 +36,7 @@ use Rattle.outputs.specs.Stored as Outputs
 use Rattle.polymesh.specs.Layout.{wordsOf, usedOf, siteOf}
 use Rattle.polymesh.specs.Gather.{Meshed, comesTo, MeshedTo}
 use Rattle.polymesh.specs.Linking.{placesOf, linksWith, LinkableReady, LinkedTo}
-use Rattle.polymesh.specs.Build.{BuildReady, MakeReady, lending, MadeTo, BuiltTo}
+use Rattle.polymesh.specs.Build.{BuildReady, lending, MadeTo, BuiltTo}
 use Rattle.polymesh.proofs.Gathers.{admitted-sized}
 
 -- ---- a build refuses for want of an ear alone, and its links are those of its mesh
@@ -76,43 +76,41 @@ links-built j (added o) m ls log e = links-linked j (removeAll (j .nvp) o) m ls 
 -- ---- the build
 
 -- zeros in a buffer of just the words that are lent
-all-wiped : {v t : ℕ} {j : Job} {b : Lent} → BuildReady v t j b → (k : ℕ) {z : List ℕ} → k ≡ length (b .work) → z ≡ replicate k 0 → z ≡ wiped j (b .work)
+all-wiped : {v t : ℕ} {j : Job} {b : Lent} → BuildReady (wordsOf v) v t j b → (k : ℕ) {z : List ℕ} → k ≡ length (b .work) → z ≡ replicate k 0 → z ≡ wiped j (b .work)
 unfolding wiped workWords
 all-wiped {v} {t} {j} {b} r k l e =
-    let c : wordsOf v ≡ 4096 + 128 * countV j = ap wordsOf (r .ready .job .vertices) in
+    let c : wordsOf v ≡ 4096 + 128 * countV j = ap wordsOf (r .job .vertices) in
     let a = length-replicate {A = ℕ} (4096 + 128 * countV j) 0 in
     e ∙ ap (λ (k : ℕ). replicate k 0) (l ∙ r .size ∙ c) ∙ sym (splice-whole (b .work) (replicate (4096 + 128 * countV j) 0) (a ∙ sym c ∙ sym (r .size)))
 
 -- the words that are used are among those that are lent
-pub used-fits : {v t : ℕ} {j : Job} {b : Lent} → BuildReady v t j b → {n : ℕ} → n ≡ usedOf v t → n ≤ length (b .work)
-used-fits r e = omega (arith, e, r .size, admitted-sized (r .ready .job) .t-most)
+pub used-fits : {v t : ℕ} {j : Job} {b : Lent} → BuildReady (wordsOf v) v t j b → {n : ℕ} → n ≡ usedOf v t → n ≤ length (b .work)
+used-fits r e = omega (arith, e, r .size, admitted-sized (r .job) .t-most)
 
 -- and enough
-pub make-ready : {v t : ℕ} {j : Job} {b : Lent} → BuildReady v t j b → (part : List ℕ) → length part ≡ usedOf v t → MakeReady v t j (lending b part)
+pub make-ready : {v t : ℕ} {j : Job} {b : Lent} → BuildReady (wordsOf v) v t j b → (part : List ℕ) → length part ≡ usedOf v t → BuildReady (usedOf v t) v t j (lending b part)
 make-ready r part l = record {
   size = l;
-  ready = record {
-    job = r .ready .job;
-    room = record {
-      vertices = r .ready .room .vertices;
-      polygons = r .ready .room .polygons;
-      neighbours = r .ready .room .neighbours;
-      regions = r .ready .room .regions;
-      codes = r .ready .room .codes;
-      flags = r .ready .room .flags;
-    };
-    fits = r .ready .fits;
+  job = r .job;
+  room = record {
+    vertices = r .room .vertices;
+    polygons = r .room .polygons;
+    neighbours = r .room .neighbours;
+    regions = r .room .regions;
+    codes = r .room .codes;
+    flags = r .room .flags;
   };
+  fits = r .fits;
 }
 
 -- once all is wiped: ys is what those words became
-pub made-built : {v t : ℕ} {j : Job} {b u : Lent} {reply : Reply} → BuildReady v t j b → (part : List ℕ) → MadeTo j (lending b part) u reply → (ys : List ℕ) (n : ℕ)
+pub made-built : {v t : ℕ} {j : Job} {b u : Lent} {reply : Reply} → BuildReady (wordsOf v) v t j b → (part : List ℕ) → MadeTo j (lending b part) u reply → (ys : List ℕ) (n : ℕ)
     → length ys ≡ n → n ≤ length (b .work) → {z : List ℕ} → z ≡ replicate (length (ys ++ drop n (b .work))) 0 → BuiltTo j b (lending u z) reply
 made-built {b = b} {u = u} r part m ys n l h e =
     let k : length (ys ++ drop n (b .work)) ≡ length (b .work) = simp (length-append, length-drop) (omega arith) in
     record { answer = m .answer; exit = ap (lending u) (all-wiped r _ k e) ∙ m .exit (b .work) }
 
-module _ {v t : ℕ} {j : Job} {b : Lent} (r : MakeReady v t j b) where
+module _ {v t : ℕ} {j : Job} {b : Lent} (r : BuildReady (usedOf v t) v t j b) where
   module _ {u : List ℕ} {reply : Reply} (g : MeshedTo u v t j reply) where
     pub refused-exit : {x : Refusal} → reply ≡ Refused x → {z : List ℕ} → MadeTo j b (lending b z) (Refused x)
     unfolding exitOf onlyWiped
@@ -143,12 +141,12 @@ module _ {v t : ℕ} {j : Job} {b : Lent} (r : MakeReady v t j b) where
 
       fit : Fits m (w .links)
       unfolding m
-      fit = r .ready .fits (w .mesh) (w .links) (w .log) (w .is)
+      fit = r .fits (w .mesh) (w .links) (w .log) (w .is)
 
       pub linkable : LinkableReady u v t (record { vertices = nv; polygons = np })
       unfolding n m
       linkable = record {
-        sized = admitted-sized (r .ready .job);
+        sized = admitted-sized (r .job);
         room = omega (arith, g .size);
         stands = subst (λ (c : Counts). Stands u (siteOf v t) c mostCorners) (sym counts) (stands-wider (meshed .stands));
         few = rw (w .polygons) (fit .polygons);
@@ -181,18 +179,18 @@ module _ {v t : ℕ} {j : Job} {b : Lent} (r : MakeReady v t j b) where
         room-now =
             let q : np ≤ t = rw (w .polygons) few in
             record {
-              vertices = omega (arith, w .vertices, meshed .stands .vertices, r .ready .room .vertices);
-              polygons = omega (arith, few-rows, r .ready .room .polygons);
-              neighbours = omega (arith, few-rows, r .ready .room .neighbours);
-              regions = omega (arith, q, r .ready .room .regions);
-              codes = omega (arith, q, r .ready .room .codes);
-              flags = omega (arith, q, r .ready .room .flags);
+              vertices = omega (arith, w .vertices, meshed .stands .vertices, r .room .vertices);
+              polygons = omega (arith, few-rows, r .room .polygons);
+              neighbours = omega (arith, few-rows, r .room .neighbours);
+              regions = omega (arith, q, r .room .regions);
+              codes = omega (arith, q, r .room .codes);
+              flags = omega (arith, q, r .room .flags);
             }
 
         pub storable : {at : Places} → at ≡ placesOf v t (record { vertices = nv; polygons = np })
             → StoreReady at (j .nvp) (lending b x)
         unfolding n
-        storable p = rw p (store-ready stored room-now (r .ready .job .passed .nvp-high) (all-imp (λ p (k : Good (Below (length (m .vertices))) (j .nvp) p). k .short) sound) fit)
+        storable p = rw p (store-ready stored room-now (r .job .passed .nvp-high) (all-imp (λ p (k : Good (Below (length (m .vertices))) (j .nvp) p). k .short) sound) fit)
 
         pub built-exit : {at : Places} → at ≡ placesOf v t (record { vertices = nv; polygons = np }) → {a : Lent} → StoredTo at (j .nvp) (lending b x) a → {z : List ℕ}
             → MadeTo j b (lending a z) (Built np nv)

@@ -113,14 +113,12 @@ module _ (j : Job) (b : Lent) (p : check j (lengthsOf b) ≡ passed) {v t : ℕ}
     flags = rw c (known .room 5 (omega arith));
   }
 
-  pub build-ready : Widths j → BuildReady v t j (lending b part)
+  pub build-ready : Widths j → BuildReady (wordsOf v) v t j (lending b part)
   build-ready w = record {
     size = l;
-    ready = record {
-      job = admitted j (lengthsOf b) p a c;
-      room = room;
-      fits = λ m ks log e. written-fits j b m ks log w (came-to ∙ e);
-    };
+    job = admitted j (lengthsOf b) p a c;
+    room = room;
+    fits = λ m ks log e. written-fits j b m ks log w (came-to ∙ e);
   }
 
   -- what a build leaves in the part of the work buffer, and in all of it

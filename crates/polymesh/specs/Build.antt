@@ -12,7 +12,6 @@ use Rattle.rules.specs.Exits.{wiped, exitOf}
 use Rattle.rules.specs.Widths.{Fits}
 use Rattle.rules.specs.declared.Reply.{Reply}
 use Rattle.outputs.specs.Ready.{buffers}
-use Rattle.polymesh.specs.Layout.{wordsOf, usedOf}
 use Rattle.polymesh.specs.Gather.{Admitted, comesTo}
 
 -- there is room for v vertices and t polygons in the six buffers
@@ -24,21 +23,12 @@ pub record Room (v t nvp : ℕ) (b : Lent) : Type 0 where
   pub codes : t ≤ length (b .codes)
   pub flags : t ≤ length (b .flags)
 
--- the job j passed the checks, and its numbers fit their words
-pub record JobReady (v t : ℕ) (j : Job) (b : Lent) : Type 0 where
+-- the job j passed the checks, its numbers fit their words, and b's work buffer has just n words: those that are lent for a build of it, or those that it uses
+pub record BuildReady (n v t : ℕ) (j : Job) (b : Lent) : Type 0 where
+  pub size : length (b .work) ≡ n
   pub job : Admitted v t j
   pub room : Room v t (j .nvp) b
   pub fits : (m : Mesh) (links : List (List ℕ)) (log : List Removal) → comesTo j ≡ built m links log → Fits m links
-
--- the same, and b's work buffer has just the words that are lent for a build of it
-pub record BuildReady (v t : ℕ) (j : Job) (b : Lent) : Type 0 where
-  pub size : length (b .work) ≡ wordsOf v
-  pub ready : JobReady v t j b
-
--- or just those that it uses
-pub record MakeReady (v t : ℕ) (j : Job) (b : Lent) : Type 0 where
-  pub size : length (b .work) ≡ usedOf v t
-  pub ready : JobReady v t j b
 
 -- the buffers b, of which another work buffer is lent
 abbrev pub lending : Lent → List ℕ → Lent

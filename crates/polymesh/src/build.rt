@@ -4,8 +4,9 @@ ghost use Prim.Native.Nat.{ℕ};
 ghost use lib.ListN.{length, replicate};
 ghost use Rattle.checks.specs.Answers.{jobOf};
 ghost use Rattle.outputs.specs.Ready.{buffers};
+ghost use Rattle.polymesh.specs.Layout.{wordsOf, usedOf};
 ghost use Rattle.polymesh.specs.Gather.{Admitted, Ready, MeshedTo};
-ghost use Rattle.polymesh.specs.Build.{BuildReady, MakeReady, MadeTo, BuiltTo};
+ghost use Rattle.polymesh.specs.Build.{BuildReady, MadeTo, BuiltTo};
 use crate::layout::ground;
 use crate::layout::places;
 use crate::layout::site;
@@ -87,7 +88,7 @@ fn make_mesh(
     flags: &mut [u16],
     work: &mut [u32],
 ) -> Reply
-    requires { ⌜ ((x y z : ℕ) → Admitted v t (jobOf nvp x y z (now lengths) (now regions) (now codes) (now numbers))) × MakeReady v t (jobOf nvp w h border (now lengths) (now regions) (now codes) (now numbers)) (buffers (now vertices) (now polygons) (now neighbours) (now polyregions) (now polycodes) (now flags) (now work)) ⌝ }
+    requires { ⌜ ((x y z : ℕ) → Admitted v t (jobOf nvp x y z (now lengths) (now regions) (now codes) (now numbers))) × BuildReady (usedOf v t) v t (jobOf nvp w h border (now lengths) (now regions) (now codes) (now numbers)) (buffers (now vertices) (now polygons) (now neighbours) (now polyregions) (now polycodes) (now flags) (now work)) ⌝ }
     ensures { λ r. ⌜ MadeTo (jobOf nvp w h border (now (lengths .entry)) (now (regions .entry)) (now (codes .entry)) (now (numbers .entry))) (buffers (now (vertices .entry)) (now (polygons .entry)) (now (neighbours .entry)) (now (polyregions .entry)) (now (polycodes .entry)) (now (flags .entry)) (now (work .entry))) (buffers (now (vertices .exit)) (now (polygons .exit)) (now (neighbours .exit)) (now (polyregions .exit)) (now (polycodes .exit)) (now (flags .exit)) (now (work .exit))) r ⌝ }
 {
     match gather_mesh(work, v, t, nvp, lengths, regions, codes, numbers) {
@@ -137,7 +138,7 @@ pub fn build(
     flags: &mut [u16],
     work: &mut [u32],
 ) -> Reply
-    requires { ⌜ ((x y z : ℕ) → Admitted v t (jobOf nvp x y z (now lengths) (now regions) (now codes) (now numbers))) × BuildReady v t (jobOf nvp w h border (now lengths) (now regions) (now codes) (now numbers)) (buffers (now vertices) (now polygons) (now neighbours) (now polyregions) (now polycodes) (now flags) (now work)) ⌝ }
+    requires { ⌜ ((x y z : ℕ) → Admitted v t (jobOf nvp x y z (now lengths) (now regions) (now codes) (now numbers))) × BuildReady (wordsOf v) v t (jobOf nvp w h border (now lengths) (now regions) (now codes) (now numbers)) (buffers (now vertices) (now polygons) (now neighbours) (now polyregions) (now polycodes) (now flags) (now work)) ⌝ }
     ensures { λ r. ⌜ BuiltTo (jobOf nvp w h border (now (lengths .entry)) (now (regions .entry)) (now (codes .entry)) (now (numbers .entry))) (buffers (now (vertices .entry)) (now (polygons .entry)) (now (neighbours .entry)) (now (polyregions .entry)) (now (polycodes .entry)) (now (flags .entry)) (now (work .entry))) (buffers (now (vertices .exit)) (now (polygons .exit)) (now (neighbours .exit)) (now (polyregions .exit)) (now (polycodes .exit)) (now (flags .exit)) (now (work .exit))) r ⌝ }
 {
     let n = used_words(v, t);

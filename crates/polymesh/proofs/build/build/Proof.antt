@@ -8,7 +8,7 @@ use Rattle.polymesh.proofs.build.build.Statement.{statement}
 use Rattle.polymesh.proofs.build.build.Tie as tie
 
 used-words-requires : tie.Need-used-words-requires
-used-words-requires c κs = admitted-sized (c .before .before .before .before .before .before .before .before .before .before .before .pre .1 .ready .job)
+used-words-requires c κs = admitted-sized (c .before .before .before .before .before .before .before .before .before .before .before .pre .1 .job)
 
 slice-relend-prefix-make-mesh : tie.Need-slice-relend-prefix-make-mesh
 slice-relend-prefix-make-mesh c = used-fits (c .before .before .before .before .before .before .before .before .before .before .before .before .before .before .before .before .before .before .pre .1) (c .before .before .before .before .before .before .used-words .ensures)

@@ -21,7 +21,7 @@ enum-known-np : tie.Need-enum-known-np
 enum-known-np c = search needs
 
 places-requires : tie.Need-places-requires
-places-requires c κs = admitted-sized (c .before .before .before .before .before .before .before .before .before .before .before .before .before .before .before .before .before .before .pre .1 .ready .job)
+places-requires c κs = admitted-sized (c .before .before .before .before .before .before .before .before .before .before .before .before .before .before .before .before .before .before .pre .1 .job)
 
 link-mesh-requires : tie.Need-link-mesh-requires
 link-mesh-requires c κs = linkable (c .before .before .before .before .before .before .before .before .before .before .before .before .before .before .before .before .before .before .before .before .pre .1) (c .before .before .before .before .before .before .before .gather-mesh .ensures _ _ _) (c .before .before .before .np .given .1)
