@@ -90,9 +90,9 @@ module _ {w₀ : List ℕ} {o np : ℕ} (r : Standing w₀ o np) (rem : ℕ) whe
       unfolding now
       turn = g .same ∙ ap (λ (x : TakingOut). x .polygons) (taking-turns rem now .look (rw (g .left .long) h))
 
-      module _ {p : Poly} {t : Bool} (l : Loaded (polygonAt (polygonsAt w o m) i) p) (e : t ≡ ltb 0 (holds rem (polygonOf p))) where
+      module _ {t : Bool} (e : t ≡ ltb 0 (holds rem (polygonAt (polygonsAt w o m) i))) where
         test : ltb 0 (holds rem (polygonAt (g .ps) i)) ≡ t
-        test = rw (← are, ← loaded-of l) (sym e)
+        test = rw (← are) (sym e)
 
         pub taking-pass : t ≡ false → Taking w₀ o np rem w m (i + 1)
         unfolding now

@@ -4,8 +4,8 @@ use mathlib.Core.Bool.{Bool, true, false, true≢false, _&&_, cond}
 use mathlib.Core.List.{List, [], _∷_, _++_, append-assoc, append-nil}
 use Prim.Native.Nat.{ℕ, _+_, _*_, _≤_, _<_}
 use native.Mathlib.Omega.{arith}
-use borrow.Author.Tests.{eq-eqb, ne-eqb, lt-leb, le-leb}
-use lib.Dec.{eqb, leb}
+use borrow.Author.Tests.{eq-eqb, ne-eqb, lt-leb, le-leb, ltb-false}
+use lib.Dec.{eqb, leb, ltb}
 use lib.ListN.{length, take, getD, replicate, length-append}
 use Rattle.mem.specs.Slice.{view, splice, splice-nil, splice-append, length-splice, take-snoc, view-same, blank-again}
 use Rattle.mem.specs.Loops.{over, over-turn, over-end, Left, turn, next, end}
@@ -123,6 +123,10 @@ pub end-none : (rem a b : ℕ) → (a ≡ rem → ⊥) → (b ≡ rem → ⊥) �
 unfolding otherEnd
 end-none rem a b n m = rw (ne-eqb a rem n, ne-eqb b rem m)
 
+no-words : (xs : List ℕ) → length xs ≤ 0 → xs ≡ []
+no-words [] h = refl
+no-words (x ∷ xs) h = absurd (omega arith)
+
 -- polygons before the place that is written
 polygons-kept : (w : List ℕ) (o np q : ℕ) (xs : List ℕ) → o + np * polygonSize ≤ q → polygonsAt (splice w q xs) o np ≡ polygonsAt w o np
 unfolding polygonsAt
@@ -177,6 +181,26 @@ module _ {v : List ℕ} {o np q : ℕ} (ready : PushReady v o np q) (rem : ℕ) 
           once = sym (end (l .held) h);
           all = λ e. refl;
         }
+
+    -- polygon i does not hold it: nothing is written
+    module _ (h : i < np) {t : Bool} (e : t ≡ ltb 0 (holds rem (polygonAt (polygonsAt w o np) i))) (f : t ≡ false) where
+      not-held : holds rem (polygonAt (polygonsAt v o np) i) ≤ 0
+      not-held = ltb-false 0 (holds rem (polygonAt (polygonsAt v o np) i)) (rw kept at (sym e ∙ f))
+
+      no-piece : neighboursFrom rem (polygonsAt v o np) np i ≡ neighboursFrom rem (polygonsAt v o np) np (i + 1)
+      unfolding neighboursFrom holds
+      no-piece =
+          let cs = polygonAt (polygonsAt v o np) i .corners in
+          over-turn [] _++_ (λ j. neighboursIn rem (polygonAt (polygonsAt v o np) j .corners)) i np h
+          ∙ rw (no-words (neighboursIn rem cs) (omega (arith, polygon-few rem cs, not-held)))
+
+      pub look-past : Looking v o np q rem w k (i + 1)
+      look-past = record {
+        pushing = rw no-piece at (l .pushing);
+        held = next (l .held) h (λ r. rw (le-leb (holds rem (polygonAt (polygonsAt v o np) i)) 1 (omega (arith, not-held))));
+        few = omega (arith, l .few);
+        within = omega arith;
+      }
 
     module _ (h : i < np) {p : Poly} {c : ℕ} (e : Loaded (polygonAt (polygonsAt w o np) i) p) (f : c ≡ holds rem (polygonOf p)) where
       held-is : holds rem (polygonAt (polygonsAt v o np) i) ≡ c

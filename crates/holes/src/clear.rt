@@ -26,8 +26,7 @@ fn take_out(work: &mut [u32], o: usize, np: usize, rem: u32) -> usize
     let mut m = np;
     let mut i = 0;
     while i < m {
-        let p = load_at(work, o, m, i);
-        if is_held(p, rem) {
+        if is_held(work, o, m, i, rem) {
             swap_remove(work, o, m, i);
             m -= 1;
             continue;

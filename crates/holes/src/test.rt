@@ -14,6 +14,7 @@ use records::polygon::load_at;
 use records::polygon::side_end;
 use records::side::SIDE_SIZE;
 use trails::sides::collect_sides;
+use trails::sides::is_held;
 use trails::walk::walk_sides;
 use words::fill::fill;
 
@@ -86,11 +87,13 @@ fn push_all(work: &mut [u32], o: usize, np: usize, q: usize, rem: u32) -> Met
     let mut k: usize = 0;
     let mut i = 0;
     while i < np {
-        let p = load_at(work, o, np, i);
-        if 1 < holds_in(p, rem) {
-            return Met { once: false, n: k };
+        if is_held(work, o, np, i, rem) {
+            let p = load_at(work, o, np, i);
+            if 1 < holds_in(p, rem) {
+                return Met { once: false, n: k };
+            }
+            k += push_neighbours(work, q + k, p, rem);
         }
-        k += push_neighbours(work, q + k, p, rem);
         i += 1;
     }
     Met { once: true, n: k }

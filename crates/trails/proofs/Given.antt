@@ -1,4 +1,4 @@
--- One polygon by value, and a vertex that goes: whether the polygon holds it, and the sides that it gives. Assumes nothing.
+-- One polygon, and a vertex that goes: whether the polygon holds it, and the sides that it gives. Assumes nothing.
 use mathlib.Core.Path.{_≡_, refl, sym, ap, _∙_}
 use mathlib.Core.Bool.{true, false}
 use mathlib.Core.Logic.{_≢_}
@@ -14,14 +14,15 @@ use Rattle.mem.specs.Slice.{splice, splice-nil, splice-append}
 use Rattle.mem.specs.Packed.{packed}
 use Rattle.mem.specs.Loops.{over, over-turn, over-end}
 use Rattle.rules.specs.Lists.{prev, count}
-use Rattle.rules.specs.Mesh.{Polygon}
+use Rattle.rules.specs.Mesh.{Polygon, polygonAt}
 use Rattle.rules.specs.Removal.{holds, untouchedSide, sideInto, untouched, dropped, droppedSide}
 use Rattle.rules.specs.declared.Side.{Side}
 use Rattle.laws.specs.Lists.{map-append}
 use Rattle.laws.specs.Ring.{prev-below}
-use Rattle.records.specs.Layout.{mostCorners, sideSize, sideWords, sideRecords}
-use Rattle.records.specs.Values.{cornersOf, polygonOf, On}
+use Rattle.records.specs.Layout.{polygonSize, polygonsAt, mostCorners, sideSize, sideWords, sideRecords}
+use Rattle.records.specs.Values.{cornersOf, cornersFrom, polygonOf, On}
 use Rattle.records.specs.Polygons.{length-corners}
+use Rattle.records.specs.Corners.{corners-at}
 use Rattle.records.specs.Fixed.{side-fixed, fixed-append, fixed-one, fixed-length}
 use Rattle.records.specs.declared.polygon.Poly.{Poly}
 use Rattle.trails.specs.Sides.{droppedWords, Laid}
@@ -40,22 +41,32 @@ count-end : (v : ℕ) (l : List ℕ) (i : ℕ) → length l ≤ i → count v (d
 unfolding count
 count-end v l i h = rw (drop-of-length-le l {i = i} h) refl
 
-pub record Unmet (rem : ℕ) (p : Poly) (i : ℕ) : Type 0 where
-  pub same : holds rem (polygonOf p) ≡ count rem (drop i (cornersOf p))
+pub record Unmet (rem : ℕ) (cs : List ℕ) (i : ℕ) : Type 0 where
+  pub same : count rem cs ≡ count rem (drop i cs)
 
-pub unmet-none : (rem : ℕ) (p : Poly) → Unmet rem p 0
-unfolding holds polygonOf
-unmet-none rem p = record { same = refl }
+pub unmet-none : (rem : ℕ) (cs : List ℕ) → Unmet rem cs 0
+unmet-none rem cs = record { same = refl }
 
-module _ {rem : ℕ} {p : Poly} {i : ℕ} (u : Unmet rem p i) (l : length (p .corners) ≡ mostCorners) (h : p .n ≤ mostCorners) where
-  pub unmet-more : {a : ℕ} → i < p .n → a ≡ getD (cornersOf p) i 0 → a ≢ rem → Unmet rem p (i + 1)
-  unmet-more k e n = record { same = u .same ∙ count-miss rem (cornersOf p) i (rw (length-corners p l h) k) (rw e at n) }
+module _ {rem : ℕ} {cs : List ℕ} {i : ℕ} (u : Unmet rem cs i) where
+  pub unmet-more : {a : ℕ} → i < length cs → a ≡ getD cs i 0 → a ≢ rem → Unmet rem cs (i + 1)
+  unmet-more k e n = record { same = u .same ∙ count-miss rem cs i k (rw e at n) }
 
-  pub met : {a : ℕ} → i < p .n → a ≡ getD (cornersOf p) i 0 → a ≡ rem → true ≡ ltb 0 (holds rem (polygonOf p))
-  met k e q = sym (lt-ltb 0 (holds rem (polygonOf p)) (omega (arith, u .same, count-hit rem (cornersOf p) i (rw (length-corners p l h) k) (sym e ∙ q))))
+  met : {a : ℕ} → i < length cs → a ≡ getD cs i 0 → a ≡ rem → true ≡ ltb 0 (count rem cs)
+  met k e q = sym (lt-ltb 0 (count rem cs) (omega (arith, u .same, count-hit rem cs i k (sym e ∙ q))))
 
-  pub unmet-all : p .n ≤ i → false ≡ ltb 0 (holds rem (polygonOf p))
-  unmet-all k = sym (le-ltb 0 (holds rem (polygonOf p)) (omega (arith, u .same, count-end rem (cornersOf p) i (rw (length-corners p l h) k))))
+  unmet-all : length cs ≤ i → false ≡ ltb 0 (count rem cs)
+  unmet-all k = sym (le-ltb 0 (count rem cs) (omega (arith, u .same, count-end rem cs i k)))
+
+-- polygon i of the np at o, its corners being read in place
+module _ (w : List ℕ) (o np i : ℕ) (fits : o + np * polygonSize ≤ length w) (h : i < np) {rem j : ℕ} (u : Unmet rem (cornersFrom w (o + i * polygonSize)) j) where
+  pub held-one : {a : ℕ} → j < length (cornersFrom w (o + i * polygonSize)) → a ≡ getD (cornersFrom w (o + i * polygonSize)) j 0 → a ≡ rem
+      → true ≡ ltb 0 (holds rem (polygonAt (polygonsAt w o np) i))
+  unfolding holds
+  held-one k e q = rw (← (corners-at w o np i fits h)) (met u k e q)
+
+  pub held-none : length (cornersFrom w (o + i * polygonSize)) ≤ j → false ≡ ltb 0 (holds rem (polygonAt (polygonsAt w o np) i))
+  unfolding holds
+  held-none k = rw (← (corners-at w o np i fits h)) (unmet-all u k)
 
 -- ---- sides in the numbers that hold once the vertex has gone
 

@@ -1,7 +1,7 @@
 -- The order in which polygons give their sides. Only place i of the list that R5 looks at is ever written, so each place above i holds the polygon of its own
 -- number: three numbers, i, the count m, and the number k of the polygon at i, say what stands where. Assumes nothing.
 use mathlib.Core.Path.{_≡_, refl, sym, ap, _∙_}
-use mathlib.Core.Bool.{true, false}
+use mathlib.Core.Bool.{Bool, true, false}
 use mathlib.Core.Logic.{_≢_}
 use mathlib.Core.List.{List, [], _++_}
 use Prim.Native.Nat.{ℕ, _+_, _-_, _*_, _≤_, _<_}
@@ -101,22 +101,25 @@ collecting-none rem ps v q m e r = record {
   room = r;
 }
 
-module _ {rem : ℕ} {ps : List Polygon} {v w : List ℕ} {q n m i k : ℕ} (c : Collecting rem ps v w q n m i k) (h : i < m) (p : Poly)
-    (l : Loaded (polygonAt ps k) p) where
+module _ {rem : ℕ} {ps : List Polygon} {v w : List ℕ} {q n m i k : ℕ} (c : Collecting rem ps v w q n m i k) (h : i < m) where
   looked : takenOut rem ps ≡ taking rem (takeOne rem (c .state))
   looked = c .same ∙ taking-turns rem (c .state) .look (omega (arith, c .place, c .many))
 
-  -- the polygon looked at is p
-  is-p : polygonAt (c .state .polygons) (c .state .at) ≡ polygonOf p
-  is-p = ap (polygonAt (c .state .polygons)) (c .place) ∙ c .here h ∙ sym (loaded-of l)
+  -- the polygon looked at is number k
+  is-k : polygonAt (c .state .polygons) (c .state .at) ≡ polygonAt ps k
+  is-k = ap (polygonAt (c .state .polygons)) (c .place) ∙ c .here h
 
-  module _ (e : ltb 0 (holds rem (polygonOf p)) ≡ true) where
+  -- it holds the vertex, and p is its value
+  module _ {p : Poly} (l : Loaded (polygonAt ps k) p) (e : ltb 0 (holds rem (polygonAt ps k)) ≡ true) where
+    is-p : polygonAt (c .state .polygons) (c .state .at) ≡ polygonOf p
+    is-p = is-k ∙ sym (loaded-of l)
+
     after : TakingOut
     after = record { polygons = swapRemove noPolygon (c .state .polygons) i; sides = c .state .sides ++ untouched rem (polygonOf p); at = i }
 
     to-after : takeOne rem (c .state) ≡ after
     unfolding after
-    to-after = take-held rem (c .state) (rw is-p e) ∙ rw (is-p, c .place) refl
+    to-after = take-held rem (c .state) (rw is-k e) ∙ rw (is-p, c .place) refl
 
     taken : takenOut rem ps ≡ taking rem after
     taken = looked ∙ ap (λ (t : TakingOut). taking rem t) to-after
@@ -156,10 +159,10 @@ module _ {rem : ℕ} {ps : List Polygon} {v w : List ℕ} {q n m i k : ℕ} (c :
           room = c .room;
         }
 
-  pub collecting-past : ltb 0 (holds rem (polygonOf p)) ≡ false → Collecting rem ps v w q n m (i + 1) (i + 1)
+  pub collecting-past : ltb 0 (holds rem (polygonAt ps k)) ≡ false → Collecting rem ps v w q n m (i + 1) (i + 1)
   collecting-past e =
       let next : TakingOut = record { polygons = c .state .polygons; sides = c .state .sides; at = i + 1 } in
-      let to : takeOne rem (c .state) ≡ next = take-free rem (c .state) (rw is-p e) ∙ rw (c .place) refl in
+      let to : takeOne rem (c .state) ≡ next = take-free rem (c .state) (rw is-k e) ∙ rw (c .place) refl in
       record {
         state = next;
         same = looked ∙ ap (λ (t : TakingOut). taking rem t) to;
@@ -201,6 +204,9 @@ module _ {w : List ℕ} {o np q rem : ℕ} (r : CollectReady w o np q rem) where
 
     pub small-now : (j : ℕ) → length (polygonAt (polygonsAt u o np) j .corners) ≤ mostCorners
     small-now j = rw same-polygons (every-at Small noPolygon (polygonsAt w o np) (r .small) j)
+
+    pub held-now : {t : Bool} → t ≡ ltb 0 (holds rem (polygonAt (polygonsAt u o np) k)) → ltb 0 (holds rem (polygonAt (polygonsAt w o np) k)) ≡ t
+    held-now e = sym (rw same-polygons at e)
 
     pub loaded-now : {p : Poly} → Loaded (polygonAt (polygonsAt u o np) k) p → Loaded (polygonAt (polygonsAt w o np) k) p
     loaded-now l = rw same-polygons at l

@@ -1,14 +1,18 @@
 // The untouched sides of the polygons that hold a vertex, in the numbers that hold once the vertex has gone.
 ghost use mathlib.Core.Path.{_≡_};
-ghost use Prim.Native.Nat.{_+_, _*_, _≤_};
+ghost use Prim.Native.Nat.{_+_, _*_, _≤_, _<_};
 ghost use lib.Dec.{ltb};
 ghost use lib.ListN.{length};
 ghost use Rattle.rules.specs.Removal.{holds, sideInto, untouched};
 ghost use Rattle.rules.specs.Removal as Rules;
-ghost use Rattle.records.specs.Layout.{mostCorners, sideSize};
+ghost use Rattle.rules.specs.Mesh.{polygonAt};
+ghost use Rattle.records.specs.Layout.{mostCorners, polygonSize, polygonsAt, Small, sideSize};
 ghost use Rattle.records.specs.Values.{polygonOf, On};
 ghost use Rattle.trails.specs.Sides.{Laid, CollectReady, Collected};
 use plane::ring::prev;
+use records::corner::corner_from;
+use records::corner::count_from;
+use records::polygon::POLYGON_SIZE;
 use records::polygon::Poly;
 use records::polygon::corner;
 use records::polygon::load_at;
@@ -16,17 +20,19 @@ use records::side::SIDE_SIZE;
 use records::side::store_side;
 use rules::Side;
 
-// Whether the polygon holds the vertex.
-pub fn is_held(p: Poly, rem: u32) -> bool
-    requires { ⌜ p .n ≤ mostCorners ⌝ }
-    ensures { λ r. ⌜ r ≡ ltb 0 (holds rem (polygonOf p)) ⌝ }
+// Whether polygon i of the np at o holds the vertex.
+pub fn is_held(work: &[u32], o: usize, np: usize, i: usize, rem: u32) -> bool
+    requires { ⌜ (o + np * polygonSize ≤ length (now work)) × (i < np) × Small (polygonAt (polygonsAt (now work) o np) i) ⌝ }
+    ensures { λ r. ⌜ r ≡ ltb 0 (holds rem (polygonAt (polygonsAt (now (work .entry)) o np) i)) ⌝ }
 {
-    let mut i = 0;
-    while i < p.n {
-        if corner(p, i) == rem {
+    let at = o + i * POLYGON_SIZE;
+    let n = count_from(work, at);
+    let mut j = 0;
+    while j < n {
+        if corner_from(work, at, j) == rem {
             return true;
         }
-        i += 1;
+        j += 1;
     }
     false
 }
@@ -87,8 +93,8 @@ pub fn collect_sides(work: &mut [u32], o: usize, np: usize, q: usize, rem: u32) 
     let mut i = 0;
     let mut k = 0;
     while i < m {
-        let p = load_at(work, o, np, k);
-        if is_held(p, rem) {
+        if is_held(work, o, np, k, rem) {
+            let p = load_at(work, o, np, k);
             n += push_sides(work, q + n * SIDE_SIZE, p, rem);
             m -= 1;
             k = m;

@@ -1,12 +1,13 @@
 -- `holes::test::push_all` meets its contract: the first i polygons hold the vertex at most once, the neighbours in them are written, and the others are to come.
 -- Assumes nothing.
+use mathlib.Core.Logic.{⊎-elim}
 use Prim.Native.Nat.{_+_, _-_, _≤_}
 use native.Mathlib.Omega.{arith}
-use borrow.Author.Needs.{needs}
 use lib.ListN.{length}
 use Rattle.rules.specs.Removal.{neighboursIn}
 use Rattle.records.specs.Values.{cornersOf}
-use Rattle.holes.proofs.Pushes.{Looking, look-none, look-small, look-end, look-twice, look-room, look-more}
+use Rattle.holes.proofs.Pushes.{Looking, look-none, look-small, look-end, look-past, look-twice, look-room, look-more}
+use borrow.Author.Needs.{needs}
 use Rattle.holes.proofs.test.push_all.Statement.{statement}
 use Rattle.holes.proofs.test.push_all.Tie as tie
 
@@ -16,19 +17,22 @@ Inv-loop work₀ o np q rem k₀ i₀ work k i = Looking work₀ o np q rem work
 abbrev μ-loop : tie.MeasureT-loop
 μ-loop work₀ o np q rem k₀ i₀ work k i = np - i
 
--- polygon i holds the vertex at most once: there is room for its neighbours in it
-room-at : (c : tie.Else1 Inv-loop μ-loop) → let g = c .before .before .before .before .before .before .before .args in
-    let at = c .before .before .before .before .before .loop in
-    g .q + at .k + length (neighboursIn (g .rem) (cornersOf (c .before .before .load-at .result))) ≤ length (at .work)
+-- polygon i holds the vertex once: there is room for its neighbours in it
+room-at : (c : tie.Else2 Inv-loop μ-loop) → let at = c .before .before .before .before .before .before .before .before in let g = at .before .before .args in
+    g .q + at .loop .k + length (neighboursIn (g .rem) (cornersOf (c .before .before .load-at .result))) ≤ length (at .loop .work)
 room-at c =
-    look-room (c .before .before .before .before .before .before .before .pre) _ (c .before .before .before .before .before .loop .inv) (search needs) (c .before .before .load-at .ensures)
-    (c .before .holds-in .ensures) (omega (arith, c .if1 .left))
+    let at = c .before .before .before .before .before .before .before .before in
+    look-room (at .before .before .pre) _ (at .loop .inv) (search needs) (c .before .before .load-at .ensures) (c .before .holds-in .ensures)
+    (omega (arith, c .if2 .left))
 
 loop-holds : tie.Need-loop-holds Inv-loop μ-loop
 loop-holds c = look-none (c .before .pre) _
 
+is-held-requires : tie.Need-is-held-requires Inv-loop μ-loop
+is-held-requires c κs = let at = c .before .before in (search needs, search needs, look-small (at .before .before .pre) _ (at .loop .inv))
+
 load-at-requires : tie.Need-load-at-requires Inv-loop μ-loop
-load-at-requires c κs = let at = c .before .before in (search needs, search needs, look-small (at .before .before .pre) _ (at .loop .inv))
+load-at-requires c κs = let at = c .before .before .before .before .before in (search needs, search needs, look-small (at .before .before .pre) _ (at .loop .inv))
 
 holds-in-requires : tie.Need-holds-in-requires Inv-loop μ-loop
 holds-in-requires c κs = search needs
@@ -38,8 +42,8 @@ same-length c = search needs
 
 returns : tie.Need-returns Inv-loop μ-loop
 returns c =
-    look-twice (c .before .before .before .before .before .before .before .pre) _ (c .before .before .before .before .before .loop .inv) (search needs) (c .before .before .load-at .ensures)
-    (c .before .holds-in .ensures) (omega (arith, c .if1 .taken))
+    let at = c .before .before .before .before .before .before .before .before in
+    look-twice (at .before .before .pre) _ (at .loop .inv) (search needs) (c .before .before .load-at .ensures) (c .before .holds-in .ensures) (omega (arith, c .if2 .taken))
 
 add-push-neighbours : tie.Need-add-push-neighbours Inv-loop μ-loop
 add-push-neighbours c = search needs
@@ -58,9 +62,12 @@ loop-less c = search needs
 
 loop-again : tie.Need-loop-again Inv-loop μ-loop
 loop-again c =
-    let t = c .before .before .before .before in
-    look-more (t .before .before .before .before .before .before .before .pre) _ (t .before .before .before .before .before .loop .inv) (search needs) (t .before .before .load-at .ensures)
-    (t .before .holds-in .ensures) (omega (arith, t .if1 .left)) (c .before .before .push-neighbours .ensures)
+    let r = c .before .before .before .before .before .before .pre in
+    let l = c .before .before .before .before .loop .inv in
+    ⊎-elim
+    (λ w. rw (w .9, w .10) (look-more r _ l (search needs) (w .2 .ensures) (w .3 .ensures) (omega (arith, w .4 .left)) (w .6 .ensures)))
+    (λ w. rw (w .1, w .2) (look-past r _ l (search needs) (c .before .is-held .ensures) (w .0 .left)))
+    (c .if1 .came)
 
 same-length-2 : tie.Need-same-length-2 Inv-loop μ-loop
 same-length-2 c = search needs
@@ -75,6 +82,7 @@ push-all-spec =
     Inv-loop
     μ-loop
     loop-holds
+    is-held-requires
     load-at-requires
     holds-in-requires
     same-length

@@ -1,37 +1,52 @@
--- `trails::sides::is_held` meets its contract: the vertex stands as often in the polygon as in its corners from i on; the measure is how many those are.
+-- `trails::sides::is_held` meets its contract: the vertex stands as often in the polygon as in its corners from j on; the measure is how many those are.
 -- Assumes nothing.
 use Prim.Native.Nat.{_-_}
+use Rattle.records.specs.Values.{cornersFrom}
+use Rattle.records.specs.Corners.{stands-at}
+use Rattle.trails.proofs.Given.{Unmet, unmet-none, unmet-more, held-one, held-none}
 use borrow.Author.Needs.{needs}
-use Rattle.trails.proofs.Given.{Unmet, unmet-none, unmet-more, met, unmet-all}
 use Rattle.trails.proofs.sides.is_held.Statement.{statement}
 use Rattle.trails.proofs.sides.is_held.Tie as tie
 
 abbrev Inv-loop : tie.InvT-loop
-Inv-loop p rem i₀ i = Unmet rem p i
+Inv-loop work o np i rem at n j₀ j = Unmet rem (cornersFrom work at) j
 
 abbrev μ-loop : tie.MeasureT-loop
-μ-loop p rem i₀ i = p .n - i
+μ-loop work o np i rem at n j₀ j = n - j
+
+mul-at : tie.Need-mul-at Inv-loop μ-loop
+mul-at c = search needs
+
+add-at : tie.Need-add-at Inv-loop μ-loop
+add-at c = search needs
+
+count-from-requires : tie.Need-count-from-requires Inv-loop μ-loop
+count-from-requires c κs = let s = c .before in stands-at _ _ _ _ (s .pre .0) (s .pre .1) (s .pre .2)
 
 loop-holds : tie.Need-loop-holds Inv-loop μ-loop
 loop-holds c = unmet-none _ _
 
-corner-requires : tie.Need-corner-requires Inv-loop μ-loop
-corner-requires c κs = search needs
+corner-from-requires : tie.Need-corner-from-requires Inv-loop μ-loop
+corner-from-requires c κs =
+    let s = c .before .before .before .before in
+    record { stands = stands-at _ _ _ _ (s .pre .0) (s .pre .1) (s .pre .2); below = search needs }
 
 returns : tie.Need-returns Inv-loop μ-loop
-returns c = met (c .before .before .before .before .loop .inv) (search needs) (search needs) (search needs) (c .before .corner .ensures) (c .if2 .taken)
+returns c =
+    let s = c .before .before .before .before .before .before in
+    held-one _ _ _ _ (s .pre .0) (s .pre .1) (c .before .before .before .loop .inv) (search needs) (c .before .corner-from .ensures) (c .if1 .taken)
 
-add-i : tie.Need-add-i Inv-loop μ-loop
-add-i c = search needs
+add-j : tie.Need-add-j Inv-loop μ-loop
+add-j c = search needs
 
 loop-less : tie.Need-loop-less Inv-loop μ-loop
 loop-less c = search needs
 
 loop-again : tie.Need-loop-again Inv-loop μ-loop
-loop-again c = unmet-more (c .before .before .before .before .loop .inv) (search needs) (search needs) (search needs) (c .before .corner .ensures) (c .if2 .left)
+loop-again c = unmet-more (c .before .before .before .loop .inv) (search needs) (c .before .corner-from .ensures) (c .if1 .left)
 
 returns-2 : tie.Need-returns-2 Inv-loop μ-loop
-returns-2 c = unmet-all (c .before .before .loop .inv) (search needs) (search needs) (search needs)
+returns-2 c = let s = c .before .before .before .before in held-none _ _ _ _ (s .pre .0) (s .pre .1) (c .before .loop .inv) (search needs)
 
 pub is-held-spec : {M : Type 1} → statement M
 is-held-spec =
@@ -39,10 +54,13 @@ is-held-spec =
     (tie.spec
     Inv-loop
     μ-loop
+    mul-at
+    add-at
+    count-from-requires
     loop-holds
-    corner-requires
+    corner-from-requires
     returns
-    add-i
+    add-j
     loop-less
     loop-again
     returns-2)
