@@ -6,11 +6,11 @@ use mathlib.Core.List.{List, [], _∷_, _++_, map, append-assoc}
 use Prim.Native.Nat.{ℕ, _+_, _-_, _*_, _≤_, _<_}
 use native.Mathlib.Omega.{arith}
 use lib.Dec.{ltb}
-use lib.ListN.{length, take, drop, length-drop, length-append, length-replicate, getD, replicate, length-map}
+use lib.ListN.{length, take, drop, length-drop, length-append, length-replicate, getD, set, replicate, length-map}
 use lib.Seq.{ext-getD, take-all, take-take, drop-drop, length-take-le}
-use Rattle.mem.specs.Slice.{view, splice, view-after, view-view, splice-append, splice-whole, splice-behind}
-use Rattle.mem.specs.Tab.{tab, length-tab, getD-tab, Filled, filled-all}
-use Rattle.mem.specs.Packed.{Every, every-at, every-map, every-take, packed, Laid, laid-more, laid-all}
+use Rattle.mem.specs.Slice.{view, splice, view-after, view-view, splice-view, splice-append, splice-whole, splice-behind}
+use Rattle.mem.specs.Tab.{tab, length-tab, getD-tab, Filled, filled-more, filled-all, filled-above}
+use Rattle.mem.specs.Packed.{Every, every-at, every-map, every-take, packed, packed-at, splice-first, Laid, laid-more, laid-all}
 use Rattle.rules.specs.Lists.{swapRemove, without}
 use Rattle.rules.specs.Links.{none}
 use Rattle.rules.specs.Exits.{padded}
@@ -20,11 +20,11 @@ use Rattle.rules.specs.Fuel.{taking}
 use Rattle.rules.specs.declared.Side.{Side}
 use Rattle.laws.specs.Lists.{getD-map-in, swap-length, every-swap}
 use Rattle.laws.specs.Fuel.{taking-turns, taken-out}
-use Rattle.records.specs.Layout.{vertexSize, verticesAt, marksAt, vertexRecords, polygonSize, mostCorners, polygonIn, polygonsAt, polygonWords, polygonRecords, Small, Tidy}
-use Rattle.records.specs.Values.{cornersOf, polygonOf, polyWords, Loaded, SwapReady}
-use Rattle.records.specs.Polygons.{padded-splice, poly-eq, length-corners, polygon-at, length-polygons, length-records, length-words, loaded-of, stored-words}
+use Rattle.records.specs.Layout.{vertexSize, verticesAt, marksAt, vertexRecords, polygonSize, mostCorners, spareWords, polygonIn, polygonsAt, polygonWords, polygonRecords, Small, Tidy}
+use Rattle.records.specs.Corners.{from-is, from-fits, stands-at, corners-at}
+use Rattle.records.specs.Values.{cornersFrom, Stands, CornerOf, SwapReady}
+use Rattle.records.specs.Polygons.{polygon-at, length-polygons, length-records, length-words}
 use Rattle.records.specs.Blanks.{Blanked, blanked-none, blanked-are, blanked-tidy, blanked-fits, blanked-same, blanked-less}
-use Rattle.records.specs.declared.polygon.Poly.{Poly}
 use Rattle.records.specs.Vertices.{length-vertices, length-marks, length-vertex-records, records-without}
 use Rattle.holes.specs.Verdict.{Standing}
 use Rattle.holes.specs.Clear.{TidyVertices, ClearReady, TakenTo, ClearedTo}
@@ -132,18 +132,40 @@ map-tab : (f : ℕ → ℕ) (l : List ℕ) → tab (λ k. f (getD l k 0)) (lengt
 map-tab f l = ext-getD 0 (tab (λ k. f (getD l k 0)) (length l)) (map f l) (length-tab _ (length l) ∙ sym (length-map l f))
     (λ k a. let h : k < length l = rw length-tab at a in getD-tab _ (length l) k 0 h ∙ sym (getD-map-in f l k 0 0 h))
 
--- in one polygon, by value
-pub dropped-made : (p : Poly) (rem : ℕ) {c : List ℕ} {i : ℕ} → length (p .corners) ≡ mostCorners → p .n ≤ mostCorners
-    → Filled (replicate mostCorners none) 0 (λ k. dropped rem (getD (cornersOf p) k 0)) (p .n) c i → p .n ≤ i
-    → Loaded (droppedIn rem (polygonOf p)) (record { corners = c; n = p .n; region = p .region; code = p .code })
-unfolding droppedIn polygonOf
-dropped-made p rem {c} l h f e =
-    let n = length-corners p l h in
-    let m : length (map (dropped rem) (cornersOf p)) ≡ p .n = length-map (cornersOf p) (dropped rem) ∙ n in
-    let made : c ≡ padded mostCorners (map (dropped rem) (cornersOf p)) =
-    filled-all f e ∙ ap (splice (replicate mostCorners none) 0) (ap (tab (λ k. dropped rem (getD (cornersOf p) k 0))) (sym n) ∙ map-tab (dropped rem) (cornersOf p))
-    ∙ padded-splice mostCorners (map (dropped rem) (cornersOf p)) (omega arith) in
-    record { is = poly-eq _ _ made (sym m) refl refl; count = sym m; most = h }
+-- in one polygon, corner after corner
+module _ {w : List ℕ} {at : ℕ} (rem : ℕ) (s : Stands w at) where
+  abbrev pub CornersDropping : ℕ → List ℕ → ℕ → Type 0
+  CornersDropping n u j = Filled w (at + 3) (λ k. dropped rem (getD (cornersFrom w at) k 0)) n u j
+
+  module _ {n : ℕ} {u : List ℕ} {j : ℕ} (e : n ≡ length (cornersFrom w at)) (f : CornersDropping n u j) where
+    of-polygon : j < n → CornerOf w at j
+    of-polygon h = record { stands = s; below = rw (← e) h }
+
+    pub corner-fits : j < n → at + 3 + j < length u
+    corner-fits h = omega (arith, from-fits (of-polygon h), f .long)
+
+    pub corner-more : {x : ℕ} → j < n → x ≡ dropped rem (getD u (at + 3 + j) 0) → CornersDropping n (set u (at + 3 + j) x) (j + 1)
+    corner-more {x} h q = filled-more f _ x refl (q ∙ ap (dropped rem) (filled-above f (at + 3 + j) 0 (omega arith) ∙ from-is (of-polygon h))) h
+
+    pub corners-all : n ≤ j → u ≡ splice w (at + 3) (map (dropped rem) (cornersFrom w at))
+    corners-all h = filled-all f h ∙ ap (splice w (at + 3)) (ap (tab (λ k. dropped rem (getD (cornersFrom w at) k 0))) e ∙ map-tab (dropped rem) (cornersFrom w at))
+
+-- the record is that of the polygon with those numbers, where it was that of the polygon
+record-dropped : (w : List ℕ) (at rem : ℕ) (p : Polygon) → view w at polygonSize ≡ polygonWords p
+    → splice w (at + 3) (map (dropped rem) (p .corners)) ≡ splice w at (polygonWords (droppedIn rem p))
+unfolding polygonWords droppedIn padded
+record-dropped w at rem p e =
+    let cs = p .corners in
+    let ds = map (dropped rem) cs in
+    let l : length ds ≡ length cs = length-map cs (dropped rem) in
+    let hd : List ℕ = length cs ∷ p .region ∷ p .code ∷ [] in
+    let tl : List ℕ = replicate (mostCorners - length cs) none ++ replicate spareWords 0 in
+    let w₁ : List ℕ = splice w at hd in
+    let is : w ≡ splice w₁ (at + 3) (cs ++ tl) =
+    sym (splice-view w at polygonSize) ∙ ap (splice w at) (e ∙ ap (λ (r : List ℕ). hd ++ r) (append-assoc cs (replicate (mostCorners - length cs) none) (replicate spareWords 0)))
+    ∙ sym (splice-append w at hd (cs ++ tl)) in
+    ap (λ (x : List ℕ). splice x (at + 3) ds) is ∙ splice-first w₁ (at + 3) cs tl ds l ∙ splice-append w at hd (ds ++ tl)
+    ∙ rw l (ap (λ (r : List ℕ). splice w at (hd ++ r)) (sym (append-assoc ds (replicate (mostCorners - length cs) none) (replicate spareWords 0))))
 
 -- in the n polygons at o, one after the other
 abbrev pub Dropping : (v : List ℕ) (o n rem : ℕ) → List ℕ → ℕ → Type 0
@@ -153,7 +175,7 @@ dropped-small : (rem : ℕ) (ps : List Polygon) → Every Small noPolygon ps →
 unfolding droppedIn
 dropped-small rem ps h = every-map Small noPolygon Small noPolygon (droppedIn rem) ps (omega arith) (λ p s. rw (length-map (p .corners) (dropped rem)) s) h
 
-module _ {v : List ℕ} {o n : ℕ} (r : Standing v o n) (rem : ℕ) where
+module _ {v : List ℕ} {o n : ℕ} (r : ClearReady v o n) (rem : ℕ) where
   many : length (map (droppedIn rem) (polygonsAt v o n)) ≡ n
   many = length-map (polygonsAt v o n) (droppedIn rem) ∙ length-polygons v o n
 
@@ -162,28 +184,36 @@ module _ {v : List ℕ} {o n : ℕ} (r : Standing v o n) (rem : ℕ) where
     unfolding polygonRecords
     wrote =
         let l = map (droppedIn rem) (polygonsAt v o n) in
-        length-records (take k l) (every-take Small noPolygon l k (dropped-small rem (polygonsAt v o n) (r .small))) ∙ ap (λ (j : ℕ). j * polygonSize) (length-take-le k l (s .within))
+        length-records (take k l) (every-take Small noPolygon l k (dropped-small rem (polygonsAt v o n) (r .standing .small))) ∙ ap (λ (j : ℕ). j * polygonSize) (length-take-le k l (s .within))
 
-    -- polygon k is as it was
+    -- record k is as it was
+    untouched-yet : k < n → view w (o + k * polygonSize) polygonSize ≡ view v (o + k * polygonSize) polygonSize
+    untouched-yet h =
+        ap (λ (x : List ℕ). view x (o + k * polygonSize) polygonSize) (s .put) ∙ view-after v o (o + k * polygonSize) polygonSize _ (omega (arith, wrote))
+
     still : k < n → polygonAt (polygonsAt w o n) k ≡ polygonAt (polygonsAt v o n) k
-    still h =
-        polygon-at w o n k h
-        ∙ ap polygonIn (ap (λ (x : List ℕ). view x (o + k * polygonSize) polygonSize) (s .put) ∙ view-after v o (o + k * polygonSize) polygonSize _ (omega (arith, wrote)))
-        ∙ sym (polygon-at v o n k h)
+    still h = polygon-at w o n k h ∙ ap polygonIn (untouched-yet h) ∙ sym (polygon-at v o n k h)
 
-    pub dropping-fits : o + n * polygonSize ≤ length w
-    dropping-fits = omega (arith, s .long, r .fits)
+    its-words : k < n → view w (o + k * polygonSize) polygonSize ≡ polygonWords (polygonAt (polygonsAt v o n) k)
+    unfolding polygonRecords
+    its-words h =
+        untouched-yet h
+        ∙ ap (λ (x : List ℕ). view x (o + k * polygonSize) polygonSize) (r .tidy .is)
+        ∙ packed-at polygonWords polygonSize Small noPolygon length-words v o (polygonsAt v o n) (r .standing .small) (rw (length-polygons v o n) (r .standing .fits)) k (rw (length-polygons v o n) h)
 
-    pub dropping-small : k < n → Small (polygonAt (polygonsAt w o n) k)
-    dropping-small h = rw (still h) (every-at Small noPolygon (polygonsAt v o n) (r .small) k)
+    pub dropping-stands : k < n → Stands w (o + k * polygonSize)
+    dropping-stands h =
+        stands-at w o n k (omega (arith, s .long, r .standing .fits)) h (rw (still h) (every-at Small noPolygon (polygonsAt v o n) (r .standing .small) k))
 
-    pub dropping-more : {p x : Poly} {u : List ℕ} → k < n → Loaded (polygonAt (polygonsAt w o n) k) p → Loaded (droppedIn rem (polygonOf p)) x
-        → u ≡ splice w (o + k * polygonSize) (polyWords x) → Dropping v o n rem u (k + 1)
-    dropping-more {p} {x} {u} h l d e =
-        let g : droppedIn rem (polygonOf p) ≡ getD (map (droppedIn rem) (polygonsAt v o n)) k noPolygon =
-        ap (droppedIn rem) (loaded-of l ∙ still h) ∙ sym (getD-map-in (droppedIn rem) (polygonsAt v o n) k noPolygon noPolygon (rw (length-polygons v o n) h)) in
-        laid-more polygonWords v o _ s polygonSize Small noPolygon length-words (dropped-small rem (polygonsAt v o n) (r .small)) (rw many h)
-        (e ∙ ap (splice w (o + k * polygonSize)) (stored-words _ (d .is) ∙ ap polygonWords g))
+    pub dropping-more : {u : List ℕ} → k < n → u ≡ splice w (o + k * polygonSize + 3) (map (dropped rem) (cornersFrom w (o + k * polygonSize))) → Dropping v o n rem u (k + 1)
+    dropping-more {u} h e =
+        let p = polygonAt (polygonsAt v o n) k in
+        let cs : cornersFrom w (o + k * polygonSize) ≡ p .corners =
+        corners-at w o n k (omega (arith, s .long, r .standing .fits)) h ∙ ap (λ (x : Polygon). x .corners) (still h) in
+        let g : droppedIn rem p ≡ getD (map (droppedIn rem) (polygonsAt v o n)) k noPolygon =
+        sym (getD-map-in (droppedIn rem) (polygonsAt v o n) k noPolygon noPolygon (rw (length-polygons v o n) h)) in
+        laid-more polygonWords v o _ s polygonSize Small noPolygon length-words (dropped-small rem (polygonsAt v o n) (r .standing .small)) (rw many h)
+        ((rw cs at e) ∙ record-dropped w (o + k * polygonSize) rem p (its-words h) ∙ ap (λ (x : Polygon). splice w (o + k * polygonSize) (polygonWords x)) g)
 
     pub dropping-all : n ≤ k → w ≡ splice v o (polygonRecords (map (droppedIn rem) (polygonsAt v o n)))
     unfolding polygonRecords
@@ -227,10 +257,13 @@ record-gone {v} {vo} {nv} i {w} t h e =
 
 -- ---- both
 module _ {v w : List ℕ} {o np rem m : ℕ} (r : ClearReady v o np) (t : TakenTo v w o np rem m) where
-  pub left-standing : Standing w o m
-  left-standing = record {
-    fits = blanked-fits v o np (r .standing .fits) (t .left);
-    small = rw (blanked-are v o np (r .standing .fits) (t .left)) (t .left .small);
+  pub left-ready : ClearReady w o m
+  left-ready = record {
+    standing = record {
+      fits = blanked-fits v o np (r .standing .fits) (t .left);
+      small = rw (blanked-are v o np (r .standing .fits) (t .left)) (t .left .small);
+    };
+    tidy = blanked-tidy v o np (r .standing .fits) (t .left);
   }
 
   pub cleared : {u : List ℕ} → u ≡ splice w o (polygonRecords (map (droppedIn rem) (polygonsAt w o m))) → ClearedTo v u o np rem m

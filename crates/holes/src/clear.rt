@@ -1,18 +1,16 @@
 // The polygons that hold a vertex go, and in the others numbers above it drop by one.
 ghost use mathlib.Core.Path.{_≡_};
 ghost use mathlib.Core.List.{map};
-ghost use Prim.Native.Nat.{_≤_};
+ghost use Prim.Native.Nat.{_+_};
 ghost use Rattle.mem.specs.Slice.{splice};
 ghost use Rattle.rules.specs.Removal.{droppedIn};
-ghost use Rattle.records.specs.Layout.{mostCorners, polygonsAt, polygonRecords};
-ghost use Rattle.records.specs.Values.{polygonOf, Loaded};
-ghost use Rattle.holes.specs.Verdict.{Standing};
+ghost use Rattle.rules.specs.Removal as Rules;
+ghost use Rattle.records.specs.Layout.{polygonsAt, polygonRecords};
+ghost use Rattle.records.specs.Values.{cornersFrom, Stands};
 ghost use Rattle.holes.specs.Clear.{ClearReady, TakenTo, ClearedTo};
-use records::polygon::NONE;
-use records::polygon::Poly;
-use records::polygon::corner;
-use records::polygon::load_at;
-use records::polygon::store_at;
+use records::corner::count_from;
+use records::polygon::CORNERS_AT;
+use records::polygon::POLYGON_SIZE;
 use records::polygon::swap_remove;
 use trails::sides::dropped;
 use trails::sides::is_held;
@@ -36,34 +34,27 @@ fn take_out(work: &mut [u32], o: usize, np: usize, rem: u32) -> usize
     m
 }
 
-// The polygon in the numbers that hold once the vertex has gone.
-fn dropped_poly(p: Poly, rem: u32) -> Poly
-    requires { ⌜ p .n ≤ mostCorners ⌝ }
-    ensures { λ r. ⌜ Loaded (droppedIn rem (polygonOf p)) r ⌝ }
+// The corners of the polygon whose words start at `at` get the numbers that hold once the vertex has gone.
+fn drop_corners(work: &mut [u32], at: usize, rem: u32)
+    requires { ⌜ Stands (now work) at ⌝ }
+    ensures { λ _. ⌜ now (work .exit) ≡ splice (now (work .entry)) (at + 3) (map (Rules.dropped rem) (cornersFrom (now (work .entry)) at)) ⌝ }
 {
-    let mut c = [NONE; 12];
-    let mut i = 0;
-    while i < p.n {
-        c[i] = dropped(corner(p, i), rem);
-        i += 1;
-    }
-    Poly {
-        corners: c,
-        n: p.n,
-        region: p.region,
-        code: p.code,
+    let n = count_from(work, at);
+    let mut j = 0;
+    while j < n {
+        work[at + CORNERS_AT + j] = dropped(work[at + CORNERS_AT + j], rem);
+        j += 1;
     }
 }
 
 // The n polygons at o get those numbers.
 fn drop_numbers(work: &mut [u32], o: usize, n: usize, rem: u32)
-    requires { ⌜ Standing (now work) o n ⌝ }
+    requires { ⌜ ClearReady (now work) o n ⌝ }
     ensures { λ _. ⌜ now (work .exit) ≡ splice (now (work .entry)) o (polygonRecords (map (droppedIn rem) (polygonsAt (now (work .entry)) o n))) ⌝ }
 {
     let mut i = 0;
     while i < n {
-        let p = load_at(work, o, n, i);
-        store_at(work, o, n, i, dropped_poly(p, rem));
+        drop_corners(work, o + i * POLYGON_SIZE, rem);
         i += 1;
     }
 }

@@ -1,14 +1,10 @@
+-- `holes::clear::drop_numbers` meets its contract: the first i records are those of the polygons with those numbers, and the others are as they were. Assumes nothing.
 use Prim.Native.Nat.{_-_}
 use Rattle.mem.specs.Packed.{laid-none}
-use Rattle.holes.proofs.Clears.{Dropping, dropping-fits, dropping-small, dropping-more, dropping-all}
+use Rattle.holes.proofs.Clears.{Dropping, dropping-stands, dropping-more, dropping-all}
 use borrow.Author.Needs.{needs}
 use Rattle.holes.proofs.clear.drop_numbers.Statement.{statement}
 use Rattle.holes.proofs.clear.drop_numbers.Tie as tie
-use Rattle.holes.proofs.clear.drop_numbers.Reads as reads
-use Rattle.holes.proofs.clear.drop_numbers.Lts as lts
-use Rattle.holes.proofs.clear.dropped_poly.Reads as dropped-poly-reads
-use Rattle.records.proofs.polygon.load_at.Reads as load-at-reads
-use Rattle.records.proofs.polygon.store_at.Reads as store-at-reads
 
 abbrev Inv-loop : tie.InvT-loop
 Inv-loop work₀ o n rem i₀ work i = Dropping work₀ o n rem work i
@@ -16,43 +12,30 @@ Inv-loop work₀ o n rem i₀ work i = Dropping work₀ o n rem work i
 abbrev μ-loop : tie.MeasureT-loop
 μ-loop work₀ o n rem i₀ work i = n - i
 
--- src/clear.rt:64:5
 loop-holds : tie.Need-loop-holds Inv-loop μ-loop
 loop-holds c = laid-none _ _ _ _
 
--- src/clear.rt:65:13
-load-at-requires : tie.Need-load-at-requires Inv-loop μ-loop
-load-at-requires c κs =
-    let s = c .before .before .before .before in
-    (dropping-fits (s .pre) _ (c .before .before .loop .inv), c .before .loop-test .taken, dropping-small (s .pre) _ (c .before .before .loop .inv) (c .before .loop-test .taken))
+mul-drop-corners : tie.Need-mul-drop-corners Inv-loop μ-loop
+mul-drop-corners c = let h = dropping-stands (c .before .before .before .before .pre) _ (c .before .before .loop .inv) (search needs) .fits in search needs
 
--- src/clear.rt:66:33
-dropped-poly-requires : tie.Need-dropped-poly-requires Inv-loop μ-loop
-dropped-poly-requires c κs = search needs
+add-drop-corners : tie.Need-add-drop-corners Inv-loop μ-loop
+add-drop-corners c = let h = dropping-stands (c .before .before .before .before .pre) _ (c .before .before .loop .inv) (search needs) .fits in search needs
 
--- src/clear.rt:66:9
-store-at-requires : tie.Need-store-at-requires Inv-loop μ-loop
-store-at-requires c κs = search needs
+drop-corners-requires : tie.Need-drop-corners-requires Inv-loop μ-loop
+drop-corners-requires c κs = dropping-stands (c .before .before .before .before .pre) _ (c .before .before .loop .inv) (search needs)
 
--- src/clear.rt:67:9
 add-i : tie.Need-add-i Inv-loop μ-loop
 add-i c = search needs
 
--- src/clear.rt:64:5
 loop-less : tie.Need-loop-less Inv-loop μ-loop
 loop-less c = search needs
 
--- src/clear.rt:64:5
 loop-again : tie.Need-loop-again Inv-loop μ-loop
-loop-again c =
-    let s = c .before .before .before .before .before .before .before .before .before .before in
-    dropping-more (s .pre) _ (c .before .before .before .before .before .before .before .before .loop .inv) (c .before .before .before .before .before .before .before .loop-test .taken) (c .before .before .before .before .before .load-at .ensures) (c .before .before .before .dropped-poly .ensures) (c .before .before .store-at .ensures)
+loop-again c = dropping-more (c .before .before .before .before .before .before .before .pre) _ (c .before .before .before .before .before .loop .inv) (search needs) (c .before .before .drop-corners .ensures)
 
--- src/clear.rt:59:1
 same-length : tie.Need-same-length Inv-loop μ-loop
 same-length c = search needs
 
--- src/clear.rt:59:1
 returns : tie.Need-returns Inv-loop μ-loop
 returns c = let s = c .before .before .before in dropping-all (s .pre) _ (c .before .loop .inv) (c .loop-test .left)
 
@@ -63,9 +46,9 @@ drop-numbers-spec =
     Inv-loop
     μ-loop
     loop-holds
-    load-at-requires
-    dropped-poly-requires
-    store-at-requires
+    mul-drop-corners
+    add-drop-corners
+    drop-corners-requires
     add-i
     loop-less
     loop-again
