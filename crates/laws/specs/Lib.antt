@@ -22,6 +22,10 @@ pub mod Reached
 pub mod Replies
 pub mod Buffers
 pub mod Links
+-- R4's search, made quicker: the longest of many, stamps that tell polygons apart, and rows that are kept from join to join
+pub mod Longest
+pub mod Stamps
+pub mod Rows
 -- the statements of `rules`: Areas, Fuel, Widths, Exits, Sentences, Distance
 pub mod Laws
 pub mod Fuel

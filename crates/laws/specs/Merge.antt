@@ -115,28 +115,37 @@ SidesIn : ℕ → ℕ → Shared → Type 0
 SidesIn la lb (Sides i j) = (i < la) × (j < lb)
 SidesIn la lb NoSide = Unit
 
-or-in : (la lb : ℕ) (s t : Shared) → SidesIn la lb s → SidesIn la lb t → SidesIn la lb (orSides s t)
-unfolding SidesIn orSides
-or-in la lb (Sides i j) t p q = p
-or-in la lb NoSide t p q = q
+module _ (a b : List ℕ) (P : Shared → Type 0) (none : P NoSide) (some : (i j : ℕ) → i < length a → j < length b → isEqual a b i j ≡ true → P (Sides i j)) where
+  or-ind : (s t : Shared) → P s → P t → P (orSides s t)
+  unfolding orSides
+  or-ind (Sides i j) t p q = p
+  or-ind NoSide t p q = q
 
-at-in : (la lb i j : ℕ) (b : Bool) → i < la → j < lb → SidesIn la lb (cond b (Sides i j) NoSide)
-unfolding SidesIn
-at-in la lb i j true h k = (h, k)
-at-in la lb i j false h k = tt
+  at-ind : (i j : ℕ) → i < length a → j < length b → P (sidesAt a b i j)
+  unfolding sidesAt
+  at-ind i j h k = go (isEqual a b i j) refl
+    where
+      go : (t : Bool) → isEqual a b i j ≡ t → P (cond t (Sides i j) NoSide)
+      go true e = some i j h k e
+      go false e = none
 
-by-in : (a b : List ℕ) (i : ℕ) → i < length a → SidesIn (length a) (length b) (sharedBy a b i)
-unfolding SidesIn sharedBy sidesAt
-by-in a b i h = over-ind NoSide orSides (sidesAt a b i) (SidesIn (length a) (length b)) tt (or-in (length a) (length b)) 0 (length b) (λ j z k. at-in (length a) (length b) i j (isEqual a b i j) h k)
+  by-ind : (i : ℕ) → i < length a → P (sharedBy a b i)
+  unfolding sharedBy
+  by-ind i h = over-ind NoSide orSides (sidesAt a b i) P none or-ind 0 (length b) (λ j z k. at-ind i j h k)
 
-down-in : (a b : List ℕ) (n : ℕ) → n ≤ length a → SidesIn (length a) (length b) (down NoSide orSides (sharedBy a b) n)
-unfolding SidesIn down
-down-in a b zero h = tt
-down-in a b (suc n) h = or-in (length a) (length b) (sharedBy a b n) (down NoSide orSides (sharedBy a b) n) (by-in a b n (omega arith)) (down-in a b n (omega arith))
+  down-ind : (n : ℕ) → n ≤ length a → P (down NoSide orSides (sharedBy a b) n)
+  unfolding down
+  down-ind zero h = none
+  down-ind (suc n) h = or-ind (sharedBy a b n) (down NoSide orSides (sharedBy a b) n) (by-ind n (omega arith)) (down-ind n (omega arith))
+
+  -- what holds of no side, and of any two sides that are equal, holds of what is found
+  pub shared-ind : P (sharedSide a b)
+  unfolding sharedSide
+  shared-ind = down-ind (length a) (omega arith)
 
 shared-in : (a b : List ℕ) → SidesIn (length a) (length b) (sharedSide a b)
-unfolding sharedSide
-shared-in a b = down-in a b (length a) (omega arith)
+unfolding SidesIn
+shared-in a b = shared-ind a b (SidesIn (length a) (length b)) tt (λ i j h k e. (h, k))
 
 -- the sides that are shared are sides of both
 pub shared-at : (a b : List ℕ) (i j : ℕ) → Sides i j ≡ sharedSide a b → (i < length a) × (j < length b)
@@ -188,6 +197,11 @@ row-in vs nvp ps p best h b = each-ind (λ q s. greater s (mergeValue vs nvp ps 
     (λ q s l k w. cond-ind (JoinableIf nvp ps) (ltb (s .length) (mergeValue vs nvp ps p q .length)) {x = mergeValue vs nvp ps p q} {y = s}
     (value-in vs nvp ps p q (omega arith) k) w)
     best b
+
+pub row-joinable : (vs : List Vertex) (nvp : ℕ) (ps : List Polygon) (p : ℕ) → p < length ps → 0 < bestOfRow vs nvp ps p noPair .length
+    → Joinable nvp ps (bestOfRow vs nvp ps p noPair)
+unfolding JoinableIf
+row-joinable vs nvp ps p h = row-in vs nvp ps p noPair h (no-pair nvp ps)
 
 pub best-in : (vs : List Vertex) (nvp : ℕ) (ps : List Polygon) → 0 < bestPair vs nvp ps .length → Joinable nvp ps (bestPair vs nvp ps)
 unfolding bestPair JoinableIf

@@ -95,6 +95,17 @@ module _ {S : Type 0} (step : ℕ → S → S) where
   unfolding each
   each-kept P h i n s = steps-kept P h (n - i) i s
 
+-- steps that say the same leave the same
+module _ {S : Type 0} (step turn : ℕ → S → S) (alike : (i : ℕ) (s : S) → step i s ≡ turn i s) where
+  steps-cong : (m i : ℕ) (s : S) → steps step i m s ≡ steps turn i m s
+  unfolding steps
+  steps-cong zero i s = refl
+  steps-cong (suc m) i s = steps-cong m (suc i) (step i s) ∙ ap (steps turn (suc i) m) (alike i s)
+
+  pub each-cong : (i n : ℕ) (s : S) → each step i n s ≡ each turn i n s
+  unfolding each
+  each-cong i n s = steps-cong (n - i) i s
+
 module _ {S : Type 0} (step : ℕ → S → S) (P : S → Type 0) where
   steps-ind : (m i : ℕ) → ((j : ℕ) (s : S) → i ≤ j → j < i + m → P s → P (step j s)) → (s : S) → P s → P (steps step i m s)
   unfolding steps

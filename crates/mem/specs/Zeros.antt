@@ -1,5 +1,6 @@
 -- Words with zeros behind them, so many in all: what becomes of them as others are written over their end. Assumes nothing.
--- Key: `zeros-put`: other words, and zeros behind them, in the place of the last ones; `zeros-in`: other words over the first of the last ones; `zeros-behind`: zeros over zeros.
+-- Key: `zeros-put`: other words, and zeros behind them, in the place of the last ones; `zeros-in`: other words over the first of the last ones; `zeros-behind`: zeros over zeros; `swallowed`: words over all that was
+-- written before.
 use mathlib.Core.Path.{_≡_, refl, sym, ap, _∙_}
 use mathlib.Core.List.{List, [], _∷_, _++_, append-assoc, append-nil}
 use Prim.Native.Nat.{ℕ, zero, suc, _+_, _-_, _≤_, _<_}
@@ -9,7 +10,7 @@ use mathlib.Core.Logic.{⊎-elim}
 use lib.ListN.{length, take, drop, getD, set, replicate, length-append, length-drop, length-replicate, replicate-append-replicate, drop-of-length-le}
 use lib.Seq.{take-at, drop-append-le, drop-append-add, append-snoc, set-at}
 use Rattle.mem.specs.Cases.{lt-or-le}
-use Rattle.mem.specs.Slice.{view, splice, splice-eq, splice-view}
+use Rattle.mem.specs.Slice.{view, splice, length-view, length-splice, splice-eq, splice-view, splice-inside, splice-over}
 
 unfoldable pub withZeros : ℕ → List ℕ → List ℕ
 withZeros n xs = xs ++ replicate (n - length xs) 0
@@ -125,3 +126,14 @@ zeros-set n xs x h =
     let e : n - length xs ≡ suc k = omega arith in
     let f : n - length (xs ++ (x ∷ [])) ≡ k = rw length-append (omega arith) in
     rw (e, f) (set-at xs 0 (replicate k 0) x (length xs) refl ∙ sym (append-snoc xs x (replicate k 0)))
+
+-- ---- a write that a later one covers, as zeros do that wipe it
+
+pub swallowed : {A : Type 0} (w : List A) (o i : ℕ) (xs ys : List A) → i + length xs ≤ length ys → o + length ys ≤ length w
+    → splice (splice w (o + i) xs) o ys ≡ splice w o ys
+swallowed {A} w o i xs ys h f =
+    let v = view w o (length ys) in
+    let l = length-view w o (length ys) f in
+    ap (λ (x : List A). splice (splice x (o + i) xs) o ys) (sym (splice-view w o (length ys)))
+    ∙ ap (λ (x : List A). splice x o ys) (splice-inside w o i v xs (omega arith))
+    ∙ splice-over w o (splice v i xs) ys (omega (arith, length-splice v i xs))
