@@ -4,8 +4,8 @@ use mathlib.Core.Path.{_≡_, refl, sym, ap, _∙_}
 use mathlib.Core.List.{List, [], _++_}
 use Prim.Native.Nat.{ℕ, _+_, _-_, _*_, _^_, _≤_, _<_}
 use native.Mathlib.Omega.{arith}
-use lib.ListN.{length, replicate, length-append}
-use Rattle.mem.specs.Slice.{view, splice}
+use lib.ListN.{length, replicate, length-append, length-replicate}
+use Rattle.mem.specs.Slice.{view, splice, splice-comm, splice-over}
 use Rattle.mem.specs.Packed.{Every, every-at}
 use Rattle.rules.specs.Plane.{onPlane, InGrid}
 use Rattle.rules.specs.Ears.{Ears, done, stuck, triangulate}
@@ -24,6 +24,7 @@ use Rattle.weld.specs.Tables.{weldedWords, WeldReady, weldOf, WeldedTo}
 use Rattle.weld.specs.Standing.{placed-after}
 use Rattle.holes.specs.Fill.{cutWords, trianglesAt}
 use Rattle.holes.specs.Small.{small-good}
+use Rattle.polys.specs.Rows.{rowSize, wiped}
 use Rattle.contours.specs.declared.ground.Ground.{Ground}
 use Rattle.contours.specs.declared.ground.Contour.{Contour}
 use Rattle.contours.specs.declared.add.Added.the-variants.{To, NoEar}
@@ -174,7 +175,7 @@ module _ {w ns : List ℕ} {g : Ground} {nv np nvp : ℕ} {c : Contour} (r : Add
             ∙ triangles-there ns (c .first) (c .n) (r .some) (omega (arith, r .vertices, few)) ts d x (g .scratch + g .v) (omega (arith, size-x, r .vertices, f .scratch))
 
         pub contour-mesh-ready : {k : ℕ} → k ≡ length ts
-            → MeshReady x (g .vertices) v (g .polygons + np * polygonSize) (g .scratch) (c .n) (g .scratch + g .v + c .n * 3) k nvp
+            → MeshReady x (g .vertices) v (g .polygons + np * polygonSize) (g .scratch) (c .n) (g .scratch + g .v + c .n * 3) k nvp (g .scratch + g .v)
         contour-mesh-ready {k} q = record {
           shape = record {
             front = omega (arith, many, r .polygons, f .polygons);
@@ -189,6 +190,9 @@ module _ {w ns : List ℕ} {g : Ground} {nv np nvp : ℕ} {c : Contour} (r : Add
           named = rw welded-numbers (all-of (S .numbers) 0 (λ i h. omega (arith, count, W .took i (omega (arith, W .listed)) .below)));
           least = r .stands .least;
           most = r .stands .most;
+          few = omega (arith, q, many, r .vertices, few);
+          clear = omega (arith, r .vertices);
+          room = omega (arith, q, many, size-x, r .vertices, f .scratch, r .some);
         }
 
         -- its triangles are made polygons
@@ -227,6 +231,23 @@ module _ {w ns : List ℕ} {g : Ground} {nv np nvp : ℕ} {c : Contour} (r : Add
           add-words ea eb =
               rw d (stage-mesh (addContour weldHeight nvp (c .region) (c .code) (contourVertices ns (c .first) (c .n)) (contourFlags ns (c .first) (c .n)) ts (meshAt w g nv np))
               (rw joined at (wipe-cutting f few (wipe-numbers f few mesh-stage′ (c .n) listed ea) (c .n * 6 - 6) (long-C (done ts) d) eb)))
+
+          -- the same, where the merge left zeros in the place of its rows
+          pub add-over : {t a b : List ℕ} → t ≡ wiped z (g .scratch + g .v) k → a ≡ splice t (g .scratch) (replicate (c .n) 0)
+              → b ≡ splice a (g .scratch + g .v) (replicate (c .n * 6 - 6) 0)
+              → b ≡ groundIn (length w) g (grownBy nvp ns c (meshAt w g nv np) (triangulate (placesIn ns (c .first) (c .n))))
+          unfolding wiped
+          add-over {t} {a} {b} et ea eb =
+              let po = g .scratch + g .v in
+              let xs : List ℕ = replicate (k * rowSize) 0 in
+              let ys : List ℕ = replicate (c .n) 0 in
+              let zs : List ℕ = replicate (c .n * 6 - 6) 0 in
+              let ly : length ys ≡ c .n = length-replicate (c .n) 0 in
+              let lx : length xs ≡ k * rowSize = length-replicate (k * rowSize) 0 in
+              let lz : length zs ≡ c .n * 6 - 6 = length-replicate (c .n * 6 - 6) 0 in
+              add-words {a = splice z (g .scratch) ys} refl (eb ∙ ap (λ (i : List ℕ). splice i po zs)
+              (ea ∙ ap (λ (i : List ℕ). splice i (g .scratch) ys) et ∙ sym (splice-comm z (g .scratch) po ys xs (omega (arith, r .vertices))))
+              ∙ splice-over (splice z (g .scratch) ys) po xs zs (omega (arith, lx, lz, q, many, r .some)))
 
           pub add-answer : To v (np + p) ≡ addedOf (grownBy nvp ns c (meshAt w g nv np) (triangulate (placesIn ns (c .first) (c .n)))) (triangulate (placesIn ns (c .first) (c .n)))
           unfolding addedOf grownBy addContour contourPolygons new S

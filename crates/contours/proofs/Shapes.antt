@@ -5,7 +5,7 @@ use Prim.Native.Nat.{ℕ, _+_, _-_, _*_, _≤_, _<_}
 use native.Mathlib.Omega.{arith}
 use lib.ListN.{length, take, getD, replicate, length-append, length-replicate, length-map}
 use lib.Seq.{length-take-le}
-use Rattle.mem.specs.Slice.{view, splice, length-splice, length-view, getD-view, view-after, splice-over, splice-append}
+use Rattle.mem.specs.Slice.{view, splice, length-splice, length-view, getD-view, view-after, splice-over, splice-comm, splice-append}
 use Rattle.mem.specs.Tab.{tab, length-blocks, getD-blocks, blocks-after, blocks-before}
 use Rattle.mem.specs.Packed.{Every, every-take, packed, Laid, laid-more, laid-all}
 use Rattle.rules.specs.Mesh.{Polygon, noPolygon}
@@ -21,9 +21,10 @@ use Rattle.records.specs.Blanks.{blanks-small}
 use Rattle.records.specs.Polygons.{stored-words, length-words, length-records, records-append, polygons-are, tidy-of}
 use Rattle.records.specs.Fixed.{wordAt, words-view}
 use Rattle.records.specs.declared.polygon.Poly.{Poly}
-use Rattle.polys.specs.Ready.{MergeReady, MergedTo}
+use Rattle.polys.specs.Ready.{MergedTo}
+use Rattle.polys.specs.Rows.{rowSize, wiped, MergeRoom, MergedOver}
 use Rattle.holes.specs.Fill.{trianglesAt}
-use Rattle.contours.specs.Shaping.{ShapeReady, MeshReady, contourPolygons, MeshedTo}
+use Rattle.contours.specs.Shaping.{ShapeReady, MeshReady, contourPolygons, MeshedTo, MeshedOver}
 
 -- ---- one triangle
 
@@ -124,7 +125,7 @@ module _ {v : List ℕ} {at ko n to k : ℕ} (r : ShapeReady v at ko n to k) whe
 
 -- ---- and are merged, with zeros behind them
 
-module _ {v : List ℕ} {vo nv at ko n to k nvp : ℕ} (r : MeshReady v vo nv at ko n to k nvp) (region code : ℕ) {w : List ℕ}
+module _ {v : List ℕ} {vo nv at ko n to k nvp ro : ℕ} (r : MeshReady v vo nv at ko n to k nvp ro) (region code : ℕ) {w : List ℕ}
     (e : w ≡ splice v at (polygonRecords (map (contourTriangle (view v ko n) region code) (trianglesAt v to k)))) where
   new : List Polygon
   new = map (contourTriangle (view v ko n) region code) (trianglesAt v to k)
@@ -165,15 +166,20 @@ module _ {v : List ℕ} {vo nv at ko n to k nvp : ℕ} (r : MeshReady v vo nv at
   unfolding new
   good = all-map (contourTriangle (view v ko n) region code) (λ t (h : Triangle n t). good-one h) (r .shape .within)
 
-  pub mesh-ready : MergeReady w vo nv at k nvp
+  pub mesh-ready : MergeRoom w vo nv at k nvp ro
   unfolding new
   mesh-ready = record {
-    ready = record {
-      placed = record { fits = omega (arith, long-w, r .placed .fits); grid = rw seen (r .placed .grid) };
-      behind = r .before;
-      fits = omega (arith, long-w, fits′);
-      most = r .most;
-      good = rw are good;
+    rows = record {
+      ready = record {
+        placed = record { fits = omega (arith, long-w, r .placed .fits); grid = rw seen (r .placed .grid) };
+        behind = r .before;
+        fits = omega (arith, long-w, fits′);
+        most = r .most;
+        good = rw are good;
+      };
+      behind = omega (arith, r .shape .front, r .clear);
+      room = omega (arith, long-w, r .room);
+      few = r .few;
     };
     tidy = tidy-of v at k new e new-count small′ fits′;
   }
@@ -214,7 +220,7 @@ module _ {v : List ℕ} {vo nv at ko n to k nvp : ℕ} (r : MeshReady v vo nv at
         (splice-over v at (polygonRecords new) (R ++ blanks)
         (simp length-append (omega (arith, length-records new small′, new-count, long-R, long-blanks, x .fewer))))
 
-    pub meshed : {y : List ℕ} → y ≡ splice u (at + m * polygonSize) (replicate ((k - m) * polygonSize) 0) → MeshedTo v y vo nv at ko n to k nvp region code m
+    meshed : {y : List ℕ} → y ≡ splice u (at + m * polygonSize) (replicate ((k - m) * polygonSize) 0) → MeshedTo v y vo nv at ko n to k nvp region code m
     unfolding contourPolygons new merged R
     meshed {y} f =
         let Z : List ℕ = replicate ((k - m) * polygonSize) 0 in
@@ -226,3 +232,17 @@ module _ {v : List ℕ} {vo nv at ko n to k nvp : ℕ} (r : MeshReady v vo nv at
           fewer = x .fewer;
           small = merged-small;
         }
+
+  pub meshed-over : {u y : List ℕ} {m : ℕ} → MergedOver w u vo nv at k nvp ro m → y ≡ splice u (at + m * polygonSize) (replicate ((k - m) * polygonSize) 0)
+      → MeshedOver v y vo nv at ko n to k nvp ro region code m
+  unfolding wiped
+  meshed-over {u} {y} {m} x f =
+      let zs : List ℕ = replicate ((k - m) * polygonSize) 0 in
+      let lz : length zs ≡ (k - m) * polygonSize = length-replicate ((k - m) * polygonSize) 0 in
+      record {
+        mid = splice (x .mid) (at + m * polygonSize) zs;
+        meshed = meshed (x .merged) refl;
+        is =
+            f ∙ ap (λ (l : List ℕ). splice l (at + m * polygonSize) zs) (x .is)
+            ∙ sym (splice-comm (x .mid) (at + m * polygonSize) ro zs (replicate (k * rowSize) 0) (omega (arith, x .merged .fewer, r .shape .front, r .clear)));
+      }

@@ -50,7 +50,7 @@ pub fn add_contour(
             let v = weld_contour(work, t, nv, g.scratch, numbers, c.first, c.n, WELD_HEIGHT);
             let at = g.polygons + np * POLYGON_SIZE;
             let to = po + c.n * 3;
-            let p = mesh_contour(work, g.vertices, v, at, g.scratch, to, k, nvp, c);
+            let p = mesh_contour(work, g.vertices, v, at, g.scratch, to, k, nvp, po, c);
             fill(work, g.scratch, c.n, 0);
             fill(work, po, c.n * 6 - 6, 0);
             return Added::To(v, np + p);

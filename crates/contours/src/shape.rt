@@ -8,7 +8,7 @@ ghost use Rattle.rules.specs.Build.{contourTriangle};
 ghost use Rattle.records.specs.Layout.{polygonRecords};
 ghost use Rattle.records.specs.Values.{Loaded};
 ghost use Rattle.holes.specs.Fill.{trianglesAt};
-ghost use Rattle.contours.specs.Shaping.{ShapeReady, MeshReady, MeshedTo};
+ghost use Rattle.contours.specs.Shaping.{ShapeReady, MeshReady, MeshedOver};
 use crate::ground::Contour;
 use polys::merge::merge_polys;
 use records::polygon::NONE;
@@ -84,8 +84,8 @@ pub fn shape_contour(
     }
 }
 
-// The triangles of contour c become polygons, and are merged, with zeros behind those that are left. The result says how
-// many that is.
+// The triangles of contour c become polygons, and are merged, with the merge's rows at ro. Zeros are left behind the polygons
+// that are left, and where the rows were. The result says how many are left.
 pub fn mesh_contour(
     work: &mut [u32],
     vo: usize,
@@ -95,13 +95,14 @@ pub fn mesh_contour(
     to: usize,
     k: usize,
     nvp: usize,
+    ro: usize,
     c: Contour,
 ) -> usize
-    requires { ⌜ MeshReady (now work) vo nv at ko (c .n) to k nvp ⌝ }
-    ensures { λ r. ⌜ MeshedTo (now (work .entry)) (now (work .exit)) vo nv at ko (c .n) to k nvp (c .region) (c .code) r ⌝ }
+    requires { ⌜ MeshReady (now work) vo nv at ko (c .n) to k nvp ro ⌝ }
+    ensures { λ r. ⌜ MeshedOver (now (work .entry)) (now (work .exit)) vo nv at ko (c .n) to k nvp ro (c .region) (c .code) r ⌝ }
 {
     shape_contour(work, at, ko, c.n, to, k, c.region, c.code);
-    let r = merge_polys(work, vo, nv, at, k, nvp);
+    let r = merge_polys(work, vo, nv, at, k, nvp, ro);
     fill(work, at + r * POLYGON_SIZE, (k - r) * POLYGON_SIZE, 0);
     r
 }

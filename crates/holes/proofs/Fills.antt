@@ -27,11 +27,12 @@ use Rattle.laws.specs.Lists.{All, none, more, all-imp, every-of-all, all-map, a
 use Rattle.records.specs.Layout.{vertexSize, pointSize, polygonSize, vertexIn, pointIn, verticesAt, pointsAt, polygonsAt, polygonWords, polygonRecords, Small, Placed}
 use Rattle.records.specs.Values.{toPoly, polyWords, Loaded}
 use Rattle.records.specs.Polygons.{stored-words, length-words, length-records, polygons-are, tidy-of}
-use Rattle.polys.specs.Ready.{MergeReady, MergedTo}
+use Rattle.polys.specs.Ready.{MergedTo}
+use Rattle.polys.specs.Rows.{MergeRoom, MergedOver}
 use Rattle.records.specs.Fixed.{point-fixed, fixed-count, wordAt, words-view}
 use Rattle.records.specs.declared.polygon.Poly.{Poly}
 use Rattle.holes.specs.Places.{two, put-two, placed-words, points-back, grid-words}
-use Rattle.holes.specs.Fill.{placeWords, LayReady, CutReady, cutWords, trianglesAt, ShapeReady, MeshReady, holePolygons, MeshedTo}
+use Rattle.holes.specs.Fill.{placeWords, LayReady, CutReady, cutWords, trianglesAt, ShapeReady, MeshReady, holePolygons, MeshedTo, MeshedOver}
 use Rattle.rules.specs.Ears.{Ears, done, stuck, triangulate}
 use Rattle.ears.specs.Part.{Laid as EarsLaid, pointsOf, cutIn}
 
@@ -212,7 +213,7 @@ module _ {v : List ℕ} {at q m to n : ℕ} (r : ShapeReady v at q m to n) where
     shape-all h = laid-all polygonWords v at _ s (omega (arith, counts))
 
 -- ---- and are merged
-module _ {v : List ℕ} {vo nv at q m to k nvp : ℕ} (r : MeshReady v vo nv at q m to k nvp) {w : List ℕ}
+module _ {v : List ℕ} {vo nv at q m to k nvp ro : ℕ} (r : MeshReady v vo nv at q m to k nvp ro) {w : List ℕ}
     (e : w ≡ splice v at (polygonRecords (map (holeTriangle (pointsAt v q m)) (trianglesAt v to k)))) where
   new : List Polygon
   new = map (holeTriangle (pointsAt v q m)) (trianglesAt v to k)
@@ -240,20 +241,25 @@ module _ {v : List ℕ} {vo nv at q m to k nvp : ℕ} (r : MeshReady v vo nv at 
   good = all-map (holeTriangle (pointsAt v q m)) (λ t (h : Triangle m t). good-triangle (verticesAt v vo nv) (Below nv) nvp (pointsAt v q m) (r .least) (r .named)
       (rw (length-places (verticesAt v vo nv) (pointsAt v q m), fixed-count point-fixed v q m) h)) (r .shape .within)
 
-  pub mesh-ready : MergeReady w vo nv at k nvp
+  pub mesh-ready : MergeRoom w vo nv at k nvp ro
   unfolding new
   mesh-ready = record {
-    ready = record {
-      placed = record { fits = omega (arith, long-w′, r .placed .fits); grid = rw seen (r .placed .grid) };
-      behind = r .before;
-      fits = omega (arith, long-w′, fits′);
-      most = r .most;
-      good = rw are good;
+    rows = record {
+      ready = record {
+        placed = record { fits = omega (arith, long-w′, r .placed .fits); grid = rw seen (r .placed .grid) };
+        behind = r .before;
+        fits = omega (arith, long-w′, fits′);
+        most = r .most;
+        good = rw are good;
+      };
+      behind = omega (arith, r .shape .front, r .clear);
+      room = omega (arith, long-w′, r .room);
+      few = r .few;
     };
     tidy = tidy-of v at k new e (counts (r .shape)) small′ fits′;
   }
 
-  pub meshed : {u : List ℕ} {n : ℕ} → MergedTo w u vo nv at k nvp n → MeshedTo v u vo nv at q m to k nvp n
+  meshed : {u : List ℕ} {n : ℕ} → MergedTo w u vo nv at k nvp n → MeshedTo v u vo nv at q m to k nvp n
   unfolding holePolygons new
   meshed {u} {n} x =
       let all = mergeAll (verticesAt v vo nv) nvp new in
@@ -271,3 +277,6 @@ module _ {v : List ℕ} {vo nv at q m to k nvp : ℕ} (r : MeshReady v vo nv at 
         fewer = x .fewer;
         small = s;
       }
+
+  pub meshed-over : {u : List ℕ} {n : ℕ} → MergedOver w u vo nv at k nvp ro n → MeshedOver v u vo nv at q m to k nvp ro n
+  meshed-over x = record { mid = x .mid; meshed = meshed (x .merged); is = x .is }

@@ -21,6 +21,7 @@ use Rattle.records.specs.Fixed.{point-fixed, fixed-count}
 use Rattle.records.specs.Polygons.{length-records}
 use Rattle.holes.specs.declared.fill.Filled.the-variants.{Polygons}
 use Rattle.holes.specs.Fill.{placeWords, cutWords, trianglesAt, MeshReady, MeshedTo, FillReady, holePolygons, filledOf, filledIn}
+use Rattle.polys.specs.Rows.{rowSize, wiped}
 use Rattle.holes.specs.Places.{placed-words}
 
 module _ {v : List ℕ} {vo nv at q m po nvp : ℕ} (r : FillReady v vo nv at q m po nvp) {w : List ℕ}
@@ -124,7 +125,7 @@ module _ {v : List ℕ} {vo nv at q m po nvp : ℕ} (r : FillReady v vo nv at q 
     unfolding verticesAt
     same-vertices = rw words (blocks-after vertexIn v po vo vertexSize nv _ (omega (arith, r .cut .lay .before, r .cut .lay .behind)))
 
-    pub fill-ready : {k : ℕ} → k ≡ length ts → MeshReady w vo nv at q m (po + m * 3) k nvp
+    pub fill-ready : {k : ℕ} → k ≡ length ts → MeshReady w vo nv at q m (po + m * 3) k nvp po
     fill-ready {k} c = record {
       shape = record {
         front = omega (arith, r .front, many-ts);
@@ -137,6 +138,9 @@ module _ {v : List ℕ} {vo nv at q m po nvp : ℕ} (r : FillReady v vo nv at q 
       named = rw same-points (r .cut .lay .named);
       least = r .least;
       most = r .most;
+      few = omega (arith, c, many-ts, r .cut .few);
+      clear = r .cut .lay .behind;
+      room = omega (arith, c, long-w, many-ts, r .cut .room, r .cut .some);
     }
 
     module _ {k n : ℕ} (c : k ≡ length ts) {u : List ℕ} (x : MeshedTo w u vo nv at q m (po + m * 3) k nvp n) where
@@ -179,3 +183,14 @@ module _ {v : List ℕ} {vo nv at q m po nvp : ℕ} (r : FillReady v vo nv at q 
           meshed-words ∙ ap (λ (l : List ℕ). splice l at R) words ∙ sym (splice-comm v at po R C (omega (arith, long-R, r .front, r .cut .lay .behind))) in
           f ∙ ap (λ (l : List ℕ). splice l po (replicate (m * 6 - 6) 0)) g
           ∙ splice-over (splice v at R) po C (replicate (m * 6 - 6) 0) (rw length-replicate (omega (arith, long-C))) ∙ rw (d, long-hole) refl
+
+      -- the same, where the merge left zeros in the place of its rows
+      pub fill-over : {z y : List ℕ} → z ≡ wiped u po k → y ≡ splice z po (replicate (m * 6 - 6) 0)
+          → y ≡ filledIn v (verticesAt v vo nv) nvp at po (pointsAt v q m) (triangulate (placesOf (verticesAt v vo nv) (pointsAt v q m)))
+      unfolding wiped
+      fill-over {z} {y} a f =
+          let xs : List ℕ = replicate (k * rowSize) 0 in
+          let ys : List ℕ = replicate (m * 6 - 6) 0 in
+          let lx : length xs ≡ k * rowSize = length-replicate (k * rowSize) 0 in
+          let ly : length ys ≡ m * 6 - 6 = length-replicate (m * 6 - 6) 0 in
+          fill-words (f ∙ ap (λ (l : List ℕ). splice l po ys) a ∙ splice-over u po xs ys (omega (arith, lx, ly, c, many-ts, r .cut .some)))

@@ -17,6 +17,7 @@ use Rattle.holes.specs.declared.fill.Filled.{Filled}
 use Rattle.holes.specs.declared.fill.Filled.the-variants.{Polygons, NoEars}
 use Rattle.laws.specs.Lists.{All}
 use Rattle.laws.specs.Ears.{Triangle}
+use Rattle.polys.specs.Rows.{rowSize, wiped}
 use Rattle.records.specs.Layout.{vertexSize, pointSize, polygonSize, mostCorners, verticesAt, pointsAt, polygonRecords, Small, Placed}
 
 -- a place as two words, and those of a list
@@ -58,14 +59,17 @@ unfoldable pub cutWords : ℕ → List Point → Ears → List ℕ
 cutWords m ps (done ts) = packed placeWords ps ++ (replicate m 0 ++ packed (λ t. t) ts)
 cutWords m ps (stuck k) = packed placeWords ps ++ replicate (m + (m - 2) * 3) 0
 
--- the same, and the points are of the nv vertices at vo, which lie in front of the polygons
-pub record MeshReady (w : List ℕ) (vo nv at q m to k nvp : ℕ) : Type 0 where
+-- the same, and the points are of the nv vertices at vo, which lie in front of the polygons; behind the points, at ro, there is room for the merge's rows
+pub record MeshReady (w : List ℕ) (vo nv at q m to k nvp ro : ℕ) : Type 0 where
   pub shape : ShapeReady w at q m to k
   pub placed : Placed w vo nv
   pub before : vo + nv * vertexSize ≤ at
   pub named : All (Named nv) (pointsAt w q m)
   pub least : 3 ≤ nvp
   pub most : nvp ≤ mostCorners
+  pub few : k < 2 ^ 28
+  pub clear : q + m * pointSize ≤ ro
+  pub room : ro + k * rowSize ≤ length w
 
 -- R4 on the triangles of the hole
 unfoldable pub holePolygons : List Vertex → ℕ → List ChainPoint → List (List ℕ) → List Polygon
@@ -77,6 +81,12 @@ pub record MeshedTo (w u : List ℕ) (vo nv at q m to k nvp r : ℕ) : Type 0 wh
   pub is : u ≡ splice w at (polygonRecords (holePolygons (verticesAt w vo nv) nvp (pointsAt w q m) (trianglesAt w to k) ++ replicate (k - r) noPolygon))
   pub fewer : r ≤ k
   pub small : Every Small noPolygon (holePolygons (verticesAt w vo nv) nvp (pointsAt w q m) (trianglesAt w to k) ++ replicate (k - r) noPolygon)
+
+-- the same, with zeros where the merge had its rows
+pub record MeshedOver (w u : List ℕ) (vo nv at q m to k nvp ro r : ℕ) : Type 0 where
+  pub mid : List ℕ
+  pub meshed : MeshedTo w mid vo nv at q m to k nvp r
+  pub is : u ≡ wiped mid ro k
 
 -- a hole of m points at q, with room for its polygons at `at`, in front of it, and for the cutting at po, behind it
 pub record FillReady (w : List ℕ) (vo nv at q m po nvp : ℕ) : Type 0 where

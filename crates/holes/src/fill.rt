@@ -10,7 +10,7 @@ ghost use Rattle.mem.specs.Packed.{packed};
 ghost use Rattle.rules.specs.Removal.{placesOf, holeTriangle};
 ghost use Rattle.records.specs.Layout.{pointSize, verticesAt, pointsAt, polygonRecords};
 ghost use Rattle.records.specs.Values.{Loaded};
-ghost use Rattle.holes.specs.Fill.{placeWords, LayReady, CutReady, cutWords, trianglesAt, ShapeReady, MeshReady, MeshedTo, FillReady, filledOf, filledIn};
+ghost use Rattle.holes.specs.Fill.{placeWords, LayReady, CutReady, cutWords, trianglesAt, ShapeReady, MeshReady, MeshedOver, FillReady, filledOf, filledIn};
 ghost use Rattle.rules.specs.Ears as Rules;
 ghost use Rattle.ears.specs.Part.{answerOf};
 use ears::cut::Triangulation;
@@ -114,7 +114,8 @@ pub fn shape_triangles(work: &mut [u32], at: usize, q: usize, m: usize, to: usiz
     }
 }
 
-// The k triangles whose words stand at `to` become polygons at `at`, and are merged. The result says how many are left.
+// The k triangles whose words stand at `to` become polygons at `at`, and are merged, with the merge's rows at ro, where zeros are
+// left. The result says how many are left.
 pub fn mesh_hole(
     work: &mut [u32],
     vo: usize,
@@ -125,12 +126,13 @@ pub fn mesh_hole(
     to: usize,
     k: usize,
     nvp: usize,
+    ro: usize,
 ) -> usize
-    requires { ⌜ MeshReady (now work) vo nv at q m to k nvp ⌝ }
-    ensures { λ r. ⌜ MeshedTo (now (work .entry)) (now (work .exit)) vo nv at q m to k nvp r ⌝ }
+    requires { ⌜ MeshReady (now work) vo nv at q m to k nvp ro ⌝ }
+    ensures { λ r. ⌜ MeshedOver (now (work .entry)) (now (work .exit)) vo nv at q m to k nvp ro r ⌝ }
 {
     shape_triangles(work, at, q, m, to, k);
-    merge_polys(work, vo, nv, at, k, nvp)
+    merge_polys(work, vo, nv, at, k, nvp, ro)
 }
 
 // A hole was filled with so many polygons, or it has no ear to cut.
@@ -156,7 +158,7 @@ pub fn fill_hole(
 {
     match cut_hole(work, vo, nv, q, m, po) {
         Triangulation::Done(k) => {
-            let n = mesh_hole(work, vo, nv, at, q, m, po + m * 3, k, nvp);
+            let n = mesh_hole(work, vo, nv, at, q, m, po + m * 3, k, nvp, po);
             fill(work, po, m * 6 - 6, 0);
             return Filled::Polygons(n);
         }

@@ -27,7 +27,7 @@ use Rattle.polys.specs.Ready.{Ready, MergeReady, JoinReady, MergedTo}
 
 -- ---- polygons that a record can hold
 
-smalls : (nv nvp : ℕ) (ps : List Polygon) → nvp ≤ mostCorners → All (Good (Below nv) nvp) ps → Every Small noPolygon ps
+pub smalls : (nv nvp : ℕ) (ps : List Polygon) → nvp ≤ mostCorners → All (Good (Below nv) nvp) ps → Every Small noPolygon ps
 smalls nv nvp ps h g = every-of-all Small noPolygon (omega arith) (all-imp (λ p (a : Good (Below nv) nvp p). omega (arith, a .short)) g)
 
 -- ---- the steps of `join_pair`
@@ -131,7 +131,7 @@ module _ {w₀ : List ℕ} {vo nv o np nvp : ℕ} (ready : MergeReady w₀ vo nv
   }
 
   module _ {w : List ℕ} {n : ℕ} (g : Joining w₀ vo nv o np nvp w n) where
-    are : polygonsAt w o n ≡ g .ps
+    pub are : polygonsAt w o n ≡ g .ps
     are = blanked-are w₀ o np (ready .ready .fits) (g .left)
 
     -- the vertices stand before the polygons
@@ -160,10 +160,10 @@ module _ {w₀ : List ℕ} {vo nv o np nvp : ℕ} (ready : MergeReady w₀ vo nv
     }
 
     module _ (m : Pair) (e : m ≡ bestPair (verticesAt w vo nv) nvp (polygonsAt w o n)) where
-      best : m ≡ bestPair (verticesAt w₀ vo nv) nvp (g .ps)
+      pub best : m ≡ bestPair (verticesAt w₀ vo nv) nvp (g .ps)
       best = e ∙ rw (seen, are)
 
-      joinable : 0 < m .length → Joinable nvp (g .ps) m
+      pub joinable : 0 < m .length → Joinable nvp (g .ps) m
       joinable h = rw best (best-in (verticesAt w₀ vo nv) nvp (g .ps) (rw best at h))
 
       pub some-left : 0 < m .length → 0 < n
@@ -178,7 +178,7 @@ module _ {w₀ : List ℕ} {vo nv o np nvp : ℕ} (ready : MergeReady w₀ vo nv
         most = ready .ready .most;
       }
 
-      pub joining-more : {v : List ℕ} → 0 < m .length → length v ≡ length w
+      unfoldable pub joining-more : {v : List ℕ} → 0 < m .length → length v ≡ length w
           → v ≡ splice w o (polygonRecords (joinPair (polygonsAt w o n) m ++ (noPolygon ∷ [])))
           → Joining w₀ vo nv o np nvp v (n - 1)
       joining-more {v} h l q =

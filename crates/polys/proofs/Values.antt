@@ -65,7 +65,7 @@ module _ {w : List ℕ} {vo nv o np nvp : ℕ} (ready : Ready w vo nv o np nvp) 
   pub stands-in : (i : ℕ) → i < np → Stands w (o + i * polygonSize)
   stands-in i h = stands-at w o np i (ready .fits) h (small-at i h)
 
-  corners-in : (i : ℕ) → i < np → cornersFrom w (o + i * polygonSize) ≡ polygonAt (polygonsAt w o np) i .corners
+  pub corners-in : (i : ℕ) → i < np → cornersFrom w (o + i * polygonSize) ≡ polygonAt (polygonsAt w o np) i .corners
   corners-in i h = corners-at w o np i (ready .fits) h
 
   pub joint-of : (a b i j : ℕ) → a < np → b < np

@@ -10,7 +10,7 @@ use crate::value::no_pair;
 use rules::Pair;
 
 // The longer of two, the first of equal ones.
-fn greater(best: Pair, m: Pair) -> Pair
+pub fn greater(best: Pair, m: Pair) -> Pair
     ensures { λ r. ⌜ r ≡ Rules.greater best m ⌝ }
 {
     if best.length < m.length { m } else { best }

@@ -2,7 +2,7 @@
 ghost use mathlib.Core.Path.{_≡_};
 ghost use mathlib.Core.Bool.{cond};
 ghost use mathlib.Core.List.{[], _∷_, _++_};
-ghost use Prim.Native.Nat.{_+_, _≤_};
+ghost use Prim.Native.Nat.{_+_, _≤_, _<_};
 ghost use lib.Dec.{eqb};
 ghost use Rattle.mem.specs.Slice.{splice};
 ghost use Rattle.rules.specs.Mesh.{noPolygon};
@@ -10,13 +10,22 @@ ghost use Rattle.rules.specs.Merge.{pastSide, joined, joinPair};
 ghost use Rattle.records.specs.Layout.{mostCorners, polygonsAt, polygonRecords};
 ghost use Rattle.records.specs.Values.{cornersOf, polygonOf, Loaded, On};
 ghost use Rattle.polys.specs.Ready.{MergeReady, JoinReady, MergedTo};
+ghost use Rattle.polys.specs.Rows.{wiped, KeptReady, MergeRoom, MergedOver};
 use crate::best::best_pair;
+use crate::row::ROW_SIZE;
+use crate::rows::best_kept;
+use crate::rows::keep_rows;
+use crate::rows::renew_rows;
 use records::polygon::NONE;
 use records::polygon::Poly;
 use records::polygon::load_at;
 use records::polygon::store_at;
 use records::polygon::swap_remove;
 use rules::Pair;
+use words::fill::fill;
+
+// Up to so many polygons all pairs are looked at after each join: that is quicker than to keep rows.
+const FEW: usize = 8;
 
 // The region of a join.
 fn joined_region(a: u32, b: u32) -> u32
@@ -68,14 +77,12 @@ pub fn join_pair(work: &mut [u32], o: usize, np: usize, nvp: usize, m: Pair)
     swap_remove(work, o, np, m.b);
 }
 
-// The np polygons at o are merged as far as they can be. The result says how many are left.
-pub fn merge_polys(work: &mut [u32], vo: usize, nv: usize, o: usize, np: usize, nvp: usize) -> usize
-    requires { ⌜ MergeReady (now work) vo nv o np nvp ⌝ }
+// The np polygons at o, few of them, are merged as far as they can be: after each join all pairs are looked at. The result says
+// how many are left.
+fn merge_few(work: &mut [u32], vo: usize, nv: usize, o: usize, np: usize, nvp: usize) -> usize
+    requires { ⌜ MergeReady (now work) vo nv o np nvp × (3 < nvp) ⌝ }
     ensures { λ r. ⌜ MergedTo (now (work .entry)) (now (work .exit)) vo nv o np nvp r ⌝ }
 {
-    if nvp <= 3 {
-        return np;
-    }
     let mut n = np;
     loop {
         let m = best_pair(work, vo, nv, o, n, nvp);
@@ -85,4 +92,58 @@ pub fn merge_polys(work: &mut [u32], vo: usize, nv: usize, o: usize, np: usize, 
         join_pair(work, o, n, nvp, m);
         n -= 1;
     }
+}
+
+// The np polygons at o, whose rows are kept at ro, are merged as far as they can be. The result says how many are left.
+fn merge_kept(
+    work: &mut [u32],
+    vo: usize,
+    nv: usize,
+    o: usize,
+    np: usize,
+    nvp: usize,
+    ro: usize,
+) -> usize
+    requires { ⌜ KeptReady (now work) vo nv o np nvp ro × (3 < nvp) ⌝ }
+    ensures { λ r. ⌜ MergedTo (wiped (now (work .entry)) ro np) (wiped (now (work .exit)) ro np) vo nv o np nvp r ⌝ }
+{
+    let mut n = np;
+    loop {
+        let m = best_kept(work, vo, nv, o, n, nvp, ro);
+        if m.length == 0 {
+            return n;
+        }
+        join_pair(work, o, n, nvp, m);
+        n -= 1;
+        renew_rows(work, vo, nv, o, n, nvp, ro, m.a, m.b);
+    }
+}
+
+// The np polygons at o are merged as far as they can be, with zeros left at ro, where there is room for their rows. The result
+// says how many are left.
+pub fn merge_polys(
+    work: &mut [u32],
+    vo: usize,
+    nv: usize,
+    o: usize,
+    np: usize,
+    nvp: usize,
+    ro: usize,
+) -> usize
+    requires { ⌜ MergeRoom (now work) vo nv o np nvp ro ⌝ }
+    ensures { λ r. ⌜ MergedOver (now (work .entry)) (now (work .exit)) vo nv o np nvp ro r ⌝ }
+{
+    if nvp <= 3 {
+        fill(work, ro, np * ROW_SIZE, 0);
+        return np;
+    }
+    if np <= FEW {
+        let n = merge_few(work, vo, nv, o, np, nvp);
+        fill(work, ro, np * ROW_SIZE, 0);
+        return n;
+    }
+    keep_rows(work, vo, nv, o, np, nvp, ro);
+    let n = merge_kept(work, vo, nv, o, np, nvp, ro);
+    fill(work, ro, np * ROW_SIZE, 0);
+    n
 }

@@ -4,7 +4,7 @@ use lib.ListN.{length}
 use mathlib.Core.Path.{_∙_}
 use native.Mathlib.Omega.{arith}
 use Rattle.holes.specs.Places.{was-done, was-stuck}
-use Rattle.contours.proofs.Adds.{contour-cut-ready, contour-weld-ready, contour-mesh-ready, polygons-fit, add-words, add-answer, stuck-words, stuck-answer}
+use Rattle.contours.proofs.Adds.{contour-cut-ready, contour-weld-ready, contour-mesh-ready, polygons-fit, add-over, add-answer, stuck-words, stuck-answer}
 use borrow.Author.Needs.{needs}
 use Rattle.contours.proofs.add.add_contour.Statement.{statement}
 use Rattle.contours.proofs.add.add_contour.Tie as tie
@@ -62,7 +62,7 @@ add-t21 : tie.Need-add-t21
 add-t21 c =
     let h = c .before .before .before .before .before .before .before .before .before .before .before .before .before .before .before .before .before .before .before .before .before .before .before .before .cut-contour in
     let x = was-done _ _ (rw (c .before .before .before .before .before .before .before .before .before .before .before .before .before .before .before .before .before .before .before .before .k .given .1) at (h .ensures .0)) in
-    record { fits = omega (arith, short-enough (c .before .before .before .before .before .before .before .before .before .before .before .before .before .before .before .before .before .before .before .before .before .before .before .before .before .before .before .before), polygons-fit (c .before .before .before .before .before .before .before .before .before .before .before .before .before .before .before .before .before .before .before .before .before .before .before .before .before .before .before .before .before .pre) (h .ensures .1) (x .ts) (x .is) (c .before .before .before .before .before .before .before .before .before .before .before .before .before .before .before .before .before .weld-contour .ensures) (x .count) (c .before .before .before .before .before .before .before .before .before .before .before .mesh-contour .ensures)) }
+    record { fits = omega (arith, short-enough (c .before .before .before .before .before .before .before .before .before .before .before .before .before .before .before .before .before .before .before .before .before .before .before .before .before .before .before .before), polygons-fit (c .before .before .before .before .before .before .before .before .before .before .before .before .before .before .before .before .before .before .before .before .before .before .before .before .before .before .before .before .before .pre) (h .ensures .1) (x .ts) (x .is) (c .before .before .before .before .before .before .before .before .before .before .before .before .before .before .before .before .before .weld-contour .ensures) (x .count) (c .before .before .before .before .before .before .before .before .before .before .before .mesh-contour .ensures .meshed)) }
 
 same-length : tie.Need-same-length
 same-length c = c .before .before .fill2 .kept .0 ∙ c .before .before .before .before .before .before .before .fill .kept .0 ∙ c .before .before .before .before .before .before .before .before .before .before .before .mesh-contour .kept .0 ∙ c .before .before .before .before .before .before .before .before .before .before .before .before .before .before .before .before .before .weld-contour .kept .0 ∙ c .before .before .before .before .before .before .before .before .before .before .before .before .before .before .before .before .before .before .before .before .before .before .before .before .cut-contour .kept .0
@@ -74,8 +74,8 @@ returns c =
     let x = was-done _ _ (rw (c .before .before .before .before .before .before .before .before .before .before .before .before .before .before .before .before .before .before .before .before .k .given .1) at (h .ensures .0)) in
     let y = c .before .before .before .before .before .before .before .before .before .before .before .before .before .before .before .before .before .weld-contour .ensures in
     let m = c .before .before .before .before .before .before .before .before .before .before .before .mesh-contour .ensures in (
-      add-answer (s .pre) (h .ensures .1) (x .ts) (x .is) y (x .count) m,
-      add-words (s .pre) (h .ensures .1) (x .ts) (x .is) y (x .count) m (c .before .before .before .before .before .before .before .fill .ensures) (c .before .before .fill2 .ensures),
+      add-answer (s .pre) (h .ensures .1) (x .ts) (x .is) y (x .count) (m .meshed),
+      add-over (s .pre) (h .ensures .1) (x .ts) (x .is) y (x .count) (m .meshed) (m .is) (c .before .before .before .before .before .before .before .fill .ensures) (c .before .before .fill2 .ensures),
     )
 
 enum-known-k-2 : tie.Need-enum-known-k-2

@@ -1,5 +1,5 @@
 -- `contours::shape::mesh_contour` meets its contract: the triangles are shaped and merged, and blank records become zeros. Assumes nothing.
-use Rattle.contours.proofs.Shapes.{mesh-ready, meshed}
+use Rattle.contours.proofs.Shapes.{mesh-ready, meshed-over}
 use borrow.Author.Needs.{needs}
 use Rattle.contours.proofs.shape.mesh_contour.Statement.{statement}
 use Rattle.contours.proofs.shape.mesh_contour.Tie as tie
@@ -29,7 +29,7 @@ same-length : tie.Need-same-length
 same-length c = search needs
 
 returns : tie.Need-returns
-returns c = let s = c .before .before .before .before .before .before .before .before .before .before .before .before .before in meshed (s .pre) (s .args .c .region) (s .args .c .code) (c .before .before .before .before .before .before .before .before .before .before .shape-contour .ensures) (c .before .before .before .before .before .before .merge-polys .ensures) (c .before .before .fill .ensures)
+returns c = let s = c .before .before .before .before .before .before .before .before .before .before .before .before .before in meshed-over (s .pre) (s .args .c .region) (s .args .c .code) (c .before .before .before .before .before .before .before .before .before .before .shape-contour .ensures) (c .before .before .before .before .before .before .merge-polys .ensures) (c .before .before .fill .ensures)
 
 pub mesh-contour-spec : {M : Type 1} → statement M
 mesh-contour-spec =

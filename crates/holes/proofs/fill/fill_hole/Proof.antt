@@ -2,7 +2,7 @@
 use mathlib.Core.Path.{refl}
 use Rattle.holes.specs.Fill.{filledOf}
 use Rattle.holes.specs.Places.{was-done, was-stuck}
-use Rattle.holes.proofs.Patches.{fill-ready, fill-answer, fill-words, stuck-words}
+use Rattle.holes.proofs.Patches.{fill-ready, fill-answer, fill-over, stuck-words}
 use borrow.Author.Needs.{needs}
 use Rattle.holes.proofs.fill.fill_hole.Statement.{statement}
 use Rattle.holes.proofs.fill.fill_hole.Tie as tie
@@ -54,8 +54,8 @@ returns c =
     let h = c .before .before .before .before .before .before .before .before .before .before .before .before .before .cut-hole in
     let x = was-done _ _ (rw (c .before .before .before .before .before .before .before .before .before .k .given .1) at (h .ensures .0)) in
     let g = c .before .before .before .before .before .before .mesh-hole .ensures in (
-      fill-answer (s .pre) (h .ensures .1) (x .ts) (x .is) (x .count) g,
-      fill-words (s .pre) (h .ensures .1) (x .ts) (x .is) (x .count) g (c .before .before .fill .ensures),
+      fill-answer (s .pre) (h .ensures .1) (x .ts) (x .is) (x .count) (g .meshed),
+      fill-over (s .pre) (h .ensures .1) (x .ts) (x .is) (x .count) (g .meshed) (g .is) (c .before .before .fill .ensures),
     )
 
 -- src/fill.rt:164:18

@@ -1,4 +1,4 @@
-use Rattle.holes.proofs.Fills.{mesh-ready, meshed}
+use Rattle.holes.proofs.Fills.{mesh-ready, meshed-over}
 use borrow.Author.Needs.{needs}
 use Rattle.holes.proofs.fill.mesh_hole.Statement.{statement}
 use Rattle.holes.proofs.fill.mesh_hole.Tie as tie
@@ -21,7 +21,7 @@ same-length c = search needs
 
 -- src/fill.rt:110:1
 returns : tie.Need-returns
-returns c = meshed (c .before .before .before .before .before .before .before .before .before .pre) (c .before .before .before .before .before .before .shape-triangles .ensures) (c .before .before .merge-polys .ensures)
+returns c = meshed-over (c .before .before .before .before .before .before .before .before .before .pre) (c .before .before .before .before .before .before .shape-triangles .ensures) (c .before .before .merge-polys .ensures)
 
 pub mesh-hole-spec : {M : Type 1} → statement M
 mesh-hole-spec =

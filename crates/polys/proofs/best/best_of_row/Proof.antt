@@ -1,17 +1,15 @@
 -- `polys::best::best_of_row` meets its contract: the polygons that are left of the row, from the best so far, give the best of the row. Assumes nothing.
 use Prim.Native.Nat.{_-_}
 use borrow.Author.Needs.{needs}
-use Rattle.mem.specs.Loops.{Doing, doing-more, doing-end}
-use Rattle.rules.specs.Merge.{bestOfRow}
 use Rattle.records.specs.Layout.{verticesAt, polygonsAt}
 use Rattle.records.specs.Polygons.{length-polygons}
-use Rattle.polys.proofs.Greatest.{rowStep, row-begin, row-step}
+use Rattle.polys.proofs.Greatest.{Searching, row-begin, row-more, row-end}
 use Rattle.polys.proofs.best.best_of_row.Statement.{statement}
 use Rattle.polys.proofs.best.best_of_row.Tie as tie
 
 abbrev Inv-loop : tie.InvT-loop
 Inv-loop work vo nv o np nvp a m₀ b₀ m b =
-    Doing (rowStep (verticesAt work vo nv) nvp (polygonsAt work o np) a) (bestOfRow (verticesAt work vo nv) nvp (polygonsAt work o np) a m₀) np m b
+    Searching (verticesAt work vo nv) nvp (polygonsAt work o np) a m₀ np m b
 
 abbrev μ-loop : tie.MeasureT-loop
 μ-loop work vo nv o np nvp a m₀ b₀ m b = np - b
@@ -37,11 +35,11 @@ loop-less c = search needs
 loop-again : tie.Need-loop-again Inv-loop μ-loop
 loop-again c =
     let s = c .before .before .before .before .before in
-    doing-more (c .before .before .before .loop .inv) (search needs)
-    (row-step _ (s .args .nvp) _ (s .args .a) _ _ (c .before .get-poly-merge-value .ensures) (c .greater .ensures))
+    row-more _ (s .args .nvp) _ (c .before .before .before .loop .inv) (c .before .before .loop-test .taken) (c .before .get-poly-merge-value .ensures)
+    (c .greater .ensures)
 
 returns : tie.Need-returns Inv-loop μ-loop
-returns c = doing-end (c .before .loop .inv) (search needs)
+returns c = let s = c .before .before .before in row-end _ (s .args .nvp) _ (c .before .loop .inv) (c .loop-test .left)
 
 pub best-of-row-spec : {M : Type 1} → statement M
 best-of-row-spec =

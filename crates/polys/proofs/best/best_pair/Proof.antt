@@ -5,7 +5,7 @@ use Rattle.mem.specs.Loops.{Doing, doing-more, doing-end}
 use Rattle.rules.specs.Merge.{bestOfRow, bestPair}
 use Rattle.records.specs.Layout.{verticesAt, polygonsAt}
 use Rattle.records.specs.Polygons.{length-polygons}
-use Rattle.polys.proofs.Greatest.{best-begin}
+use Rattle.polys.proofs.Greatest.{pairs-begin}
 use Rattle.polys.proofs.best.best_pair.Statement.{statement}
 use Rattle.polys.proofs.best.best_pair.Tie as tie
 
@@ -20,7 +20,7 @@ no-pair-requires : tie.Need-no-pair-requires Inv-loop μ-loop
 no-pair-requires c κs = search needs
 
 loop-holds : tie.Need-loop-holds Inv-loop μ-loop
-loop-holds c = best-begin _ (c .before .before .args .nvp) _ _ (length-polygons _ _ _) (c .no-pair .ensures)
+loop-holds c = pairs-begin _ (c .before .before .args .nvp) _ _ (length-polygons _ _ _) (c .no-pair .ensures)
 
 best-of-row-requires : tie.Need-best-of-row-requires Inv-loop μ-loop
 best-of-row-requires c κs = search needs

@@ -1,71 +1,78 @@
--- `polys::merge::merge_polys` meets its contract: R4 on the polygons that are left gives what R4 on all of them gives. Assumes nothing.
-use Prim.Native.Nat.{_<_}
+-- `polys::merge::merge_polys` meets its contract: nothing is merged, or few polygons plainly, or many with their rows; and the rows' room is wiped. Assumes nothing.
+use Rattle.polys.proofs.Merges.{joining-none}
+use Rattle.polys.proofs.Rounds.{merge-ready, merged-plain, kept-ready, merged-rows}
 use borrow.Author.Needs.{needs}
-use Rattle.polys.proofs.Merges.{Joining, joining-begin, joining-none, joining-more, joining-end, ready-now, join-ready, some-left}
 use Rattle.polys.proofs.merge.merge_polys.Statement.{statement}
 use Rattle.polys.proofs.merge.merge_polys.Tie as tie
 
-abbrev Inv-loop : tie.InvT-loop
-Inv-loop work₀ vo nv o np nvp n₀ work n = Joining work₀ vo nv o np nvp work n
+mul-fill : tie.Need-mul-fill
+mul-fill c = search needs
 
-abbrev μ-loop : tie.MeasureT-loop
-μ-loop work₀ vo nv o np nvp n₀ work n = n
+fill-requires : tie.Need-fill-requires
+fill-requires c κs = search needs
 
--- a pair is left, and so a polygon
-left-some : (k : tie.Else2 Inv-loop μ-loop) → 0 < k .before .before .before .before .loop .n
-left-some k =
-    let s = k .before .before .before .before .before .before .before in
-    some-left (s .pre) (k .before .before .before .before .loop .inv) _ (k .before .before .best-pair .ensures) (search needs)
+same-length : tie.Need-same-length
+same-length c = search needs
 
-returns : tie.Need-returns Inv-loop μ-loop
-returns c = let s = c .before .before in joining-none (s .pre) (search needs)
+returns : tie.Need-returns
+returns c = merged-plain (joining-none (merge-ready (c .before .before .before .before .before .before .pre)) (c .before .before .before .before .if1 .taken)) (c .before .before .fill .ensures)
 
-loop-holds : tie.Need-loop-holds Inv-loop μ-loop
-loop-holds c = let s = c .before .before in joining-begin (s .pre)
+merge-few-requires : tie.Need-merge-few-requires
+merge-few-requires c κs = (merge-ready (c .before .before .before .before .pre), c .before .before .if1 .left)
 
-best-pair-requires : tie.Need-best-pair-requires Inv-loop μ-loop
-best-pair-requires c κs = let s = c .before .before .before .before in ready-now (s .pre) (c .before .loop .inv)
+mul-fill-2 : tie.Need-mul-fill-2
+mul-fill-2 c = search needs
 
-same-length : tie.Need-same-length Inv-loop μ-loop
-same-length c = c .before .before .before .before .loop .inv .size
+fill-requires-2 : tie.Need-fill-requires-2
+fill-requires-2 c κs = search needs
 
-returns-2 : tie.Need-returns-2 Inv-loop μ-loop
-returns-2 c =
-    let k = c .before .before in
-    let s = k .before .before .before .before .before in
-    joining-end (s .pre) (k .before .before .loop .inv) _ (k .best-pair .ensures) (search needs) (search needs)
+same-length-2 : tie.Need-same-length-2
+same-length-2 c = search needs
 
-join-pair-requires : tie.Need-join-pair-requires Inv-loop μ-loop
-join-pair-requires c κs =
+returns-2 : tie.Need-returns-2
+returns-2 c = merged-plain (c .before .before .before .before .before .before .merge-few .ensures) (c .before .before .fill2 .ensures)
+
+keep-rows-requires : tie.Need-keep-rows-requires
+keep-rows-requires c κs = search needs
+
+merge-kept-requires : tie.Need-merge-kept-requires
+merge-kept-requires c κs =
     let k = c .before .before .before in
     let s = k .before .before .before .before .before in
-    join-ready (s .pre) (k .before .before .loop .inv) _ (k .best-pair .ensures) (search needs)
+    (kept-ready (s .pre .rows) (s .pre .tidy) (k .keep-rows .kept .0) (k .keep-rows .ensures), k .before .before .before .if1 .left)
 
-sub-n : tie.Need-sub-n Inv-loop μ-loop
-sub-n c = let h = left-some (c .before .before .before .before) in search needs
+mul-fill-3 : tie.Need-mul-fill-3
+mul-fill-3 c = search needs
 
-loop-less : tie.Need-loop-less Inv-loop μ-loop
-loop-less c = let h = left-some (c .before .before .before .before) in search needs
+fill-requires-3 : tie.Need-fill-requires-3
+fill-requires-3 c κs = search needs
 
-loop-again : tie.Need-loop-again Inv-loop μ-loop
-loop-again c =
-    let k = c .before .before .before .before .before .before in
+same-length-3 : tie.Need-same-length-3
+same-length-3 c = search needs
+
+returns-3 : tie.Need-returns-3
+returns-3 c =
+    let k = c .before .before .before .before .before .before .before .before .before .before in
     let s = k .before .before .before .before .before in
-    joining-more (s .pre) (k .before .before .loop .inv) _ (k .best-pair .ensures) (search needs) (c .before .before .join-pair .kept .0)
-    (c .before .before .join-pair .ensures)
+    merged-rows (s .pre .rows) (s .pre .tidy) (k .keep-rows .kept .0) (k .keep-rows .ensures) _
+    (c .before .before .before .before .before .before .merge-kept .ensures) (c .before .before .fill3 .ensures)
 
 pub merge-polys-spec : {M : Type 1} → statement M
 merge-polys-spec =
     tie.close
     (tie.spec
-    Inv-loop
-    μ-loop
-    returns
-    loop-holds
-    best-pair-requires
+    mul-fill
+    fill-requires
     same-length
+    returns
+    merge-few-requires
+    mul-fill-2
+    fill-requires-2
+    same-length-2
     returns-2
-    join-pair-requires
-    sub-n
-    loop-less
-    loop-again)
+    keep-rows-requires
+    merge-kept-requires
+    mul-fill-3
+    fill-requires-3
+    same-length-3
+    returns-3)
