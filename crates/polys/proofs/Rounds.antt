@@ -1,6 +1,7 @@
 -- One join after the other, with the rows kept: with zeros in the place of the rows the buffer is what it would be without them, and the rows are those of
 -- the polygons that are left. Assumes nothing.
 use mathlib.Core.Path.{_≡_, refl, sym, ap, _∙_}
+use mathlib.Core.Bool.{Bool, true, false, true≢false}
 use mathlib.Core.List.{List, [], _∷_, _++_}
 use Prim.Native.Nat.{ℕ, _+_, _-_, _*_, _≤_, _<_}
 use native.Mathlib.Omega.{arith}
@@ -19,8 +20,8 @@ use Rattle.records.specs.Polygons.{length-polygons, length-records}
 use Rattle.records.specs.Blanks.{Blanked, blanks-small, blanked-are, blanked-tidy}
 use Rattle.polys.specs.Ready.{MergeReady, JoinReady, MergedTo}
 use Rattle.laws.specs.Rows.{after-join}
-use Rattle.polys.specs.Rows.{rowSize, wiped, RowsReady, KeptFrom, RowsKept, AllRenewable, KeptReady, MergeRoom, MergedOver}
-use Rattle.polys.proofs.Merges.{smalls, are, Joining, joining-begin, joining-more, joining-end, ready-now, join-ready, some-left}
+use Rattle.polys.specs.Rows.{rowSize, wiped, RowsReady, RowsKept, RowsIf, RenewIf, KeptIf, MergedOver}
+use Rattle.polys.proofs.Merges.{smalls, are, Joining, joining-begin, joining-none, joining-more, joining-end, ready-now, join-ready, some-left}
 use Rattle.polys.proofs.Keeps.{vertices-under, polygons-under, ready-under}
 
 -- ---- zeros in the place of the rows
@@ -65,21 +66,20 @@ wiped-size : (w : List ℕ) (ro np : ℕ) → length (wiped w ro np) ≡ length 
 unfolding wiped
 wiped-size w ro np = length-splice w ro (replicate (np * rowSize) 0)
 
--- ---- merged without rows, and their room wiped
+-- ---- whether rows are kept
 
-pub merged-plain : {w v u : List ℕ} {vo nv o np nvp ro r : ℕ} → MergedTo w v vo nv o np nvp r → u ≡ splice v ro (replicate (np * rowSize) 0)
-    → MergedOver w u vo nv o np nvp ro r
-unfolding wiped
-merged-plain {v} t e = record { mid = v; merged = t; is = e }
+-- where they are not, nothing is said of them
+pub kept-not : {w : List ℕ} {vo nv o np nvp ro : ℕ} {t : Bool} → RowsReady w vo nv o np nvp ro → t ≡ false → KeptIf w w vo nv o np nvp ro t
+kept-not ready z = record { rows = record { rows = ready; kept = λ (y : _ ≡ true). absurd (true≢false (sym y ∙ z)) }; same = refl }
 
-pub merge-ready : {w : List ℕ} {vo nv o np nvp ro : ℕ} → MergeRoom w vo nv o np nvp ro → MergeReady w vo nv o np nvp
-merge-ready r = record { ready = r .rows .ready; tidy = r .tidy }
+pub kept-all : {w v : List ℕ} {vo nv o np nvp ro : ℕ} (t : Bool) → RowsKept w v vo nv o np nvp ro → KeptIf w v vo nv o np nvp ro t
+kept-all t k = record { rows = record { rows = k .kept .rows; kept = λ y. k .kept }; same = k .same }
 
--- ---- the loop of `merge_kept`
+-- ---- the loop of `merge_pairs`
 
-pub record Going (w₀ : List ℕ) (vo nv o np nvp ro : ℕ) (w : List ℕ) (n : ℕ) : Type 0 where
+pub record Going (w₀ : List ℕ) (vo nv o np nvp ro : ℕ) (t : Bool) (w : List ℕ) (n : ℕ) : Type 0 where
   pub joining : Joining (wiped w₀ ro np) vo nv o np nvp (wiped w ro np) n
-  pub kept : KeptFrom w vo nv o n nvp ro 0
+  pub kept : RowsIf w vo nv o n nvp ro t
   pub size : length w ≡ length w₀
 
 module _ {w₀ : List ℕ} {vo nv o np nvp ro : ℕ} (rows₀ : RowsReady w₀ vo nv o np nvp ro) (tidy₀ : Tidy w₀ o np) where
@@ -90,7 +90,7 @@ module _ {w₀ : List ℕ} {vo nv o np nvp ro : ℕ} (rows₀ : RowsReady w₀ v
     tidy = tidy-under rows₀ (replicate (np * rowSize) 0) refl tidy₀;
   }
 
-  module _ {w : List ℕ} {n : ℕ} (g : Going w₀ vo nv o np nvp ro w n) where
+  module _ {t : Bool} {w : List ℕ} {n : ℕ} (g : Going w₀ vo nv o np nvp ro t w n) where
     seen : verticesAt (wiped w ro np) vo nv ≡ verticesAt w vo nv
     unfolding wiped
     seen = vertices-under (g .kept .rows) ro (replicate (np * rowSize) 0) (omega arith) refl
@@ -173,28 +173,31 @@ module _ {w₀ : List ℕ} {vo nv o np nvp ro : ℕ} (rows₀ : RowsReady w₀ v
         unfolding verticesAt left
         vertices-on = rw q (blocks-after vertexIn w o vo vertexSize nv left (rows₀ .ready .behind))
 
-        pub going-renew : AllRenewable v vo nv o (n - 1) nvp ro (m .a) (m .b)
+        pub going-renew : RenewIf v vo nv o (n - 1) nvp ro (m .a) (m .b) t
         unfolding left
         going-renew = record {
           rows = ready-on;
-          ps = polygonsAt w o n;
-          after = rw are-on (after-join nvp (polygonsAt w o n) m joinable);
-          at = λ r k.
-              rw vertices-on (record {
-                is =
-                    rw q (view-after w o (ro + r * rowSize) rowSize left (omega (arith, left-long, g .kept .rows .behind)))
-                    ∙ g .kept .at r (omega arith) (omega arith) .is;
-              });
+          kept = λ z. record {
+            rows = ready-on;
+            ps = polygonsAt w o n;
+            after = rw are-on (after-join nvp (polygonsAt w o n) m joinable);
+            at = λ r k.
+                rw vertices-on (record {
+                  is =
+                      rw q (view-after w o (ro + r * rowSize) rowSize left (omega (arith, left-long, g .kept .rows .behind)))
+                      ∙ g .kept .kept z .at r (omega arith) (omega arith) .is;
+                });
+          };
         }
 
-        pub going-more : {u : List ℕ} → length u ≡ length v → RowsKept v u vo nv o (n - 1) nvp ro → Going w₀ vo nv o np nvp ro u (n - 1)
+        pub going-more : {u : List ℕ} → length u ≡ length v → KeptIf v u vo nv o (n - 1) nvp ro t → Going w₀ vo nv o np nvp ro t u (n - 1)
         going-more {u} k f = record {
           joining = rw (wiped-alike v u ro (n - 1) np (joining-on .left .within) (f .same)) joining-on;
-          kept = f .kept;
+          kept = f .rows;
           size = k ∙ l ∙ g .size;
         }
 
-  pub going-begin : KeptFrom w₀ vo nv o np nvp ro 0 → Going w₀ vo nv o np nvp ro w₀ np
+  pub going-begin : {t : Bool} → RowsIf w₀ vo nv o np nvp ro t → Going w₀ vo nv o np nvp ro t w₀ np
   going-begin k = record { joining = joining-begin wiped-ready; kept = k; size = refl }
 
   -- ---- all joins are done, and the rows are wiped
@@ -226,15 +229,16 @@ module _ {w₀ : List ℕ} {vo nv o np nvp ro : ℕ} (rows₀ : RowsReady w₀ v
         is = (rw (vs, ps) at (t .is)) ∙ rw (wiped-is w₀ ro np, wiped-is (splice w₀ o xs) ro np) (sym (splice-comm w₀ o ro xs z (omega (arith, long, rows₀ .behind))));
       }
 
-  -- the rows are kept in w, and the merge leaves v
-  module _ {w : List ℕ} (l : length w ≡ length w₀) (k : RowsKept w₀ w vo nv o np nvp ro) where
-    pub kept-ready : KeptReady w vo nv o np nvp ro
-    kept-ready = record {
-      kept = k .kept;
-      tidy = tidy-under (ready-under rows₀ ro (replicate (np * rowSize) 0) (omega arith) (k .same ∙ wiped-is w₀ ro np)) (view w ro (np * rowSize))
-          (wiped-back w ro np (omega (arith, l, rows₀ .room))) (rw (k .same) (wiped-ready .tidy));
-    }
+  pub merged-none : {v : List ℕ} → nvp ≤ 3 → v ≡ splice w₀ ro (replicate (np * rowSize) 0) → MergedOver w₀ v vo nv o np nvp ro np
+  merged-none h e = rw (e ∙ sym (wiped-is w₀ ro np)) (merged-over (joining-none wiped-ready h))
+
+  -- the rows are kept in w, if they are, and the merge leaves v
+  module _ {t : Bool} {w : List ℕ} (l : length w ≡ length w₀) (k : KeptIf w₀ w vo nv o np nvp ro t) where
+    pub kept-tidy : Tidy w o np
+    kept-tidy =
+        tidy-under (ready-under rows₀ ro (replicate (np * rowSize) 0) (omega arith) (k .same ∙ wiped-is w₀ ro np)) (view w ro (np * rowSize))
+        (wiped-back w ro np (omega (arith, l, rows₀ .room))) (rw (k .same) (wiped-ready .tidy))
 
     pub merged-rows : {u : List ℕ} (v : List ℕ) {r : ℕ} → MergedTo (wiped w ro np) (wiped v ro np) vo nv o np nvp r
         → u ≡ splice v ro (replicate (np * rowSize) 0) → MergedOver w₀ u vo nv o np nvp ro r
-    merged-rows v t f = rw (f ∙ sym (wiped-is v ro np)) (merged-over (rw (k .same) at t))
+    merged-rows v x f = rw (f ∙ sym (wiped-is v ro np)) (merged-over (rw (k .same) at x))

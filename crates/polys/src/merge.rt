@@ -7,15 +7,14 @@ ghost use lib.Dec.{eqb};
 ghost use Rattle.mem.specs.Slice.{splice};
 ghost use Rattle.rules.specs.Mesh.{noPolygon};
 ghost use Rattle.rules.specs.Merge.{pastSide, joined, joinPair};
-ghost use Rattle.records.specs.Layout.{mostCorners, polygonsAt, polygonRecords};
+ghost use Rattle.records.specs.Layout.{mostCorners, polygonsAt, polygonRecords, Tidy};
 ghost use Rattle.records.specs.Values.{cornersOf, polygonOf, Loaded, On};
-ghost use Rattle.polys.specs.Ready.{MergeReady, JoinReady, MergedTo};
-ghost use Rattle.polys.specs.Rows.{wiped, KeptReady, MergeRoom, MergedOver};
-use crate::best::best_pair;
+ghost use Rattle.polys.specs.Ready.{JoinReady, MergedTo};
+ghost use Rattle.polys.specs.Rows.{wiped, RowsIf, MergeRoom, MergedOver};
 use crate::row::ROW_SIZE;
-use crate::rows::best_kept;
-use crate::rows::keep_rows;
-use crate::rows::renew_rows;
+use crate::rows::best_if;
+use crate::rows::keep_if;
+use crate::rows::renew_if;
 use records::polygon::NONE;
 use records::polygon::Poly;
 use records::polygon::load_at;
@@ -24,7 +23,7 @@ use records::polygon::swap_remove;
 use rules::Pair;
 use words::fill::fill;
 
-// Up to so many polygons all pairs are looked at after each join: that is quicker than to keep rows.
+// Up to so many polygons no rows are kept, and all pairs are looked at after each join: that is quicker there.
 const FEW: usize = 8;
 
 // The region of a join.
@@ -77,25 +76,9 @@ pub fn join_pair(work: &mut [u32], o: usize, np: usize, nvp: usize, m: Pair)
     swap_remove(work, o, np, m.b);
 }
 
-// The np polygons at o, few of them, are merged as far as they can be: after each join all pairs are looked at. The result says
-// how many are left.
-fn merge_few(work: &mut [u32], vo: usize, nv: usize, o: usize, np: usize, nvp: usize) -> usize
-    requires { ⌜ MergeReady (now work) vo nv o np nvp × (3 < nvp) ⌝ }
-    ensures { λ r. ⌜ MergedTo (now (work .entry)) (now (work .exit)) vo nv o np nvp r ⌝ }
-{
-    let mut n = np;
-    loop {
-        let m = best_pair(work, vo, nv, o, n, nvp);
-        if m.length == 0 {
-            return n;
-        }
-        join_pair(work, o, n, nvp, m);
-        n -= 1;
-    }
-}
-
-// The np polygons at o, whose rows are kept at ro, are merged as far as they can be. The result says how many are left.
-fn merge_kept(
+// The np polygons at o are merged as far as they can be, with their rows kept at ro or without. The result says how many are
+// left.
+fn merge_pairs(
     work: &mut [u32],
     vo: usize,
     nv: usize,
@@ -103,19 +86,20 @@ fn merge_kept(
     np: usize,
     nvp: usize,
     ro: usize,
+    kept: bool,
 ) -> usize
-    requires { ⌜ KeptReady (now work) vo nv o np nvp ro × (3 < nvp) ⌝ }
+    requires { ⌜ RowsIf (now work) vo nv o np nvp ro kept × Tidy (now work) o np × (3 < nvp) ⌝ }
     ensures { λ r. ⌜ MergedTo (wiped (now (work .entry)) ro np) (wiped (now (work .exit)) ro np) vo nv o np nvp r ⌝ }
 {
     let mut n = np;
     loop {
-        let m = best_kept(work, vo, nv, o, n, nvp, ro);
+        let m = best_if(work, vo, nv, o, n, nvp, ro, kept);
         if m.length == 0 {
             return n;
         }
         join_pair(work, o, n, nvp, m);
         n -= 1;
-        renew_rows(work, vo, nv, o, n, nvp, ro, m.a, m.b);
+        renew_if(work, vo, nv, o, n, nvp, ro, kept, m.a, m.b);
     }
 }
 
@@ -137,13 +121,9 @@ pub fn merge_polys(
         fill(work, ro, np * ROW_SIZE, 0);
         return np;
     }
-    if np <= FEW {
-        let n = merge_few(work, vo, nv, o, np, nvp);
-        fill(work, ro, np * ROW_SIZE, 0);
-        return n;
-    }
-    keep_rows(work, vo, nv, o, np, nvp, ro);
-    let n = merge_kept(work, vo, nv, o, np, nvp, ro);
+    let kept = FEW < np;
+    keep_if(work, vo, nv, o, np, nvp, ro, kept);
+    let n = merge_pairs(work, vo, nv, o, np, nvp, ro, kept);
     fill(work, ro, np * ROW_SIZE, 0);
     n
 }

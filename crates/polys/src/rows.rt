@@ -5,7 +5,8 @@ ghost use Rattle.mem.specs.Slice.{splice};
 ghost use Rattle.rules.specs.Merge.{bestPair};
 ghost use Rattle.laws.specs.Rows.{isMoved, isRival, isReached, isStale};
 ghost use Rattle.records.specs.Layout.{verticesAt, polygonsAt};
-ghost use Rattle.polys.specs.Rows.{rowSize, rowRecord, RowsReady, KeptFrom, Stamped, Renewable, AllRenewable, RowsKept};
+ghost use Rattle.polys.specs.Rows.{rowSize, rowRecord, RowsReady, KeptFrom, Stamped, Renewable, AllRenewable, RowsKept, RowsIf, RenewIf, KeptIf};
+use crate::best::best_pair;
 use crate::best::greater;
 use crate::row::keep_row;
 use crate::row::row_at;
@@ -15,7 +16,7 @@ use crate::value::no_pair;
 use rules::Pair;
 
 // All rows are made.
-pub fn keep_rows(work: &mut [u32], vo: usize, nv: usize, o: usize, np: usize, nvp: usize, ro: usize)
+fn keep_rows(work: &mut [u32], vo: usize, nv: usize, o: usize, np: usize, nvp: usize, ro: usize)
     requires { ⌜ RowsReady (now work) vo nv o np nvp ro ⌝ }
     ensures { λ _. ⌜ RowsKept (now (work .entry)) (now (work .exit)) vo nv o np nvp ro ⌝ }
 {
@@ -27,15 +28,7 @@ pub fn keep_rows(work: &mut [u32], vo: usize, nv: usize, o: usize, np: usize, nv
 }
 
 // The best pair of all, from the rows.
-pub fn best_kept(
-    work: &[u32],
-    vo: usize,
-    nv: usize,
-    o: usize,
-    np: usize,
-    nvp: usize,
-    ro: usize,
-) -> Pair
+fn best_kept(work: &[u32], vo: usize, nv: usize, o: usize, np: usize, nvp: usize, ro: usize) -> Pair
     requires { ⌜ KeptFrom (now work) vo nv o np nvp ro 0 ⌝ }
     ensures { λ r. ⌜ r ≡ bestPair (verticesAt (now (work .entry)) vo nv) nvp (polygonsAt (now (work .entry)) o np) ⌝ }
 {
@@ -138,7 +131,7 @@ fn renew_row(
 }
 
 // All rows after a join of a and b.
-pub fn renew_rows(
+fn renew_rows(
     work: &mut [u32],
     vo: usize,
     nv: usize,
@@ -156,5 +149,65 @@ pub fn renew_rows(
     while 0 < r {
         r -= 1;
         renew_row(work, vo, nv, o, np, nvp, ro, a, b, r);
+    }
+}
+
+// All rows are made, if rows are kept.
+pub fn keep_if(
+    work: &mut [u32],
+    vo: usize,
+    nv: usize,
+    o: usize,
+    np: usize,
+    nvp: usize,
+    ro: usize,
+    kept: bool,
+)
+    requires { ⌜ RowsReady (now work) vo nv o np nvp ro ⌝ }
+    ensures { λ _. ⌜ KeptIf (now (work .entry)) (now (work .exit)) vo nv o np nvp ro kept ⌝ }
+{
+    if kept {
+        keep_rows(work, vo, nv, o, np, nvp, ro);
+    }
+}
+
+// The best pair: from the rows if they are kept, from all pairs if not.
+pub fn best_if(
+    work: &[u32],
+    vo: usize,
+    nv: usize,
+    o: usize,
+    np: usize,
+    nvp: usize,
+    ro: usize,
+    kept: bool,
+) -> Pair
+    requires { ⌜ RowsIf (now work) vo nv o np nvp ro kept ⌝ }
+    ensures { λ r. ⌜ r ≡ bestPair (verticesAt (now (work .entry)) vo nv) nvp (polygonsAt (now (work .entry)) o np) ⌝ }
+{
+    if kept {
+        return best_kept(work, vo, nv, o, np, nvp, ro);
+    }
+    best_pair(work, vo, nv, o, np, nvp)
+}
+
+// The rows after a join of a and b, if they are kept.
+pub fn renew_if(
+    work: &mut [u32],
+    vo: usize,
+    nv: usize,
+    o: usize,
+    np: usize,
+    nvp: usize,
+    ro: usize,
+    kept: bool,
+    a: usize,
+    b: usize,
+)
+    requires { ⌜ RenewIf (now work) vo nv o np nvp ro a b kept ⌝ }
+    ensures { λ _. ⌜ KeptIf (now (work .entry)) (now (work .exit)) vo nv o np nvp ro kept ⌝ }
+{
+    if kept {
+        renew_rows(work, vo, nv, o, np, nvp, ro, a, b);
     }
 }
