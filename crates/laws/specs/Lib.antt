@@ -9,6 +9,7 @@ pub mod Measures
 -- R2 to R5, one file a rule: areas, corners and ranges
 pub mod Ears
 pub mod Weld
+pub mod Shared
 pub mod Merge
 pub mod Around
 pub mod Walks

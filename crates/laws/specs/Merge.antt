@@ -15,7 +15,7 @@ use lib.IntN.{ℤ, _+ℤ_}
 use Rattle.ints.specs.Ring.{at, _⊕_}
 use Rattle.ints.specs.Order.{ints, told}
 use Rattle.ints.specs.Bools.{and-left, and-right, cond-ind}
-use Rattle.mem.specs.Loops.{over-ind, each-ind}
+use Rattle.mem.specs.Loops.{each-ind}
 use Rattle.mem.specs.Cases.{lt-or-le}
 use Rattle.mem.specs.Tab.{tab, length-tab, getD-tab}
 use Rattle.rules.specs.declared.Point.{Point}
@@ -24,14 +24,15 @@ use Rattle.rules.specs.declared.Pair.{Pair}
 use Rattle.rules.specs.declared.Shared.{Shared}
 use Rattle.rules.specs.declared.Shared.the-variants.{Sides, NoSide}
 use Rattle.rules.specs.Plane.{area, squared}
-use Rattle.rules.specs.Lists.{next, down}
+use Rattle.rules.specs.Lists.{next}
 use Rattle.rules.specs.Mesh.{Polygon, noPolygon, polygonAt, sideStart, sideEnd, placeOf}
-use Rattle.rules.specs.Merge.{isEqual, isOpposite, sidesAt, orSides, sharedBy, sharedSide, turnsLeft, mayJoin, fits, noPair, pairAt, mergeValue, greater, bestOfRow, bestPair, pastSide, joined, joinPair, mergeLoop, mergeAll}
+use Rattle.rules.specs.Merge.{isOpposite, sharedSide, turnsLeft, mayJoin, fits, noPair, pairAt, mergeValue, greater, bestOfRow, bestPair, pastSide, joined, joinPair, mergeLoop, mergeAll}
 use Rattle.rules.specs.Areas.{sumOf, pointsOf, polygonArea}
 use Rattle.laws.specs.Measures.{areaOf, spareOf, sparesIn}
 use Rattle.laws.specs.Lists.{All, none, more, all-imp, all-append, all-at, all-perm, all-take, all-drop, all-tail, all-left, map-append, set-perm, swap-perm, sum-perm, total, total-perm}
 use Rattle.laws.specs.Sides.{area-join, area-rotate}
 use Rattle.laws.specs.Ring.{mod-once, next-remainder}
+use Rattle.laws.specs.Shared.{SidesIn, shared-in}
 
 -- ---- a ring from past one of its sides on
 ring-at : (cs : List ℕ) (e k : ℕ) → e < length cs → k < length cs → getD cs ((e + 1 + k) % length cs) 0 ≡ getD (drop (e + 1) cs ++ take (e + 1) cs) k 0
@@ -110,47 +111,6 @@ pub record Joinable (nvp : ℕ) (ps : List Polygon) (m : Pair) : Type 0 where
 -- a pair of length 0 is none
 JoinableIf : ℕ → List Polygon → Pair → Type 0
 JoinableIf nvp ps m = 0 < m .length → Joinable nvp ps m
-
-SidesIn : ℕ → ℕ → Shared → Type 0
-SidesIn la lb (Sides i j) = (i < la) × (j < lb)
-SidesIn la lb NoSide = Unit
-
-module _ (a b : List ℕ) (P : Shared → Type 0) (none : P NoSide) (some : (i j : ℕ) → i < length a → j < length b → isEqual a b i j ≡ true → P (Sides i j)) where
-  or-ind : (s t : Shared) → P s → P t → P (orSides s t)
-  unfolding orSides
-  or-ind (Sides i j) t p q = p
-  or-ind NoSide t p q = q
-
-  at-ind : (i j : ℕ) → i < length a → j < length b → P (sidesAt a b i j)
-  unfolding sidesAt
-  at-ind i j h k = go (isEqual a b i j) refl
-    where
-      go : (t : Bool) → isEqual a b i j ≡ t → P (cond t (Sides i j) NoSide)
-      go true e = some i j h k e
-      go false e = none
-
-  by-ind : (i : ℕ) → i < length a → P (sharedBy a b i)
-  unfolding sharedBy
-  by-ind i h = over-ind NoSide orSides (sidesAt a b i) P none or-ind 0 (length b) (λ j z k. at-ind i j h k)
-
-  down-ind : (n : ℕ) → n ≤ length a → P (down NoSide orSides (sharedBy a b) n)
-  unfolding down
-  down-ind zero h = none
-  down-ind (suc n) h = or-ind (sharedBy a b n) (down NoSide orSides (sharedBy a b) n) (by-ind n (omega arith)) (down-ind n (omega arith))
-
-  -- what holds of no side, and of any two sides that are equal, holds of what is found
-  pub shared-ind : P (sharedSide a b)
-  unfolding sharedSide
-  shared-ind = down-ind (length a) (omega arith)
-
-shared-in : (a b : List ℕ) → SidesIn (length a) (length b) (sharedSide a b)
-unfolding SidesIn
-shared-in a b = shared-ind a b (SidesIn (length a) (length b)) tt (λ i j h k e. (h, k))
-
--- the sides that are shared are sides of both
-pub shared-at : (a b : List ℕ) (i j : ℕ) → Sides i j ≡ sharedSide a b → (i < length a) × (j < length b)
-unfolding SidesIn
-shared-at a b i j e = rw (← e) at (shared-in a b)
 
 no-pair : (nvp : ℕ) (ps : List Polygon) → JoinableIf nvp ps noPair
 unfolding JoinableIf

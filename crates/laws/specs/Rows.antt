@@ -213,7 +213,9 @@ module _ (vs : List Vertex) (nvp : ℕ) (ps qs : List Polygon) (a b r : ℕ) (t 
 
   unmoved : Still r (old .b) a b (length qs)
   unfolding old isStale
-  unmoved = still r (old .b) a b (length qs) (or-left (isMoved r (old .b) a b (length qs)) (isReached vs nvp qs r a (old .length) || isReached vs nvp qs r b (old .length)) e)
+  unmoved =
+      let u = isReached vs nvp qs r a (old .length) || isReached vs nvp qs r b (old .length) in
+      still r (old .b) a b (length qs) (or-left (isMoved r (old .b) a b (length qs)) u e)
 
   pub polygon-stays : polygonAt qs r ≡ polygonAt ps r
   polygon-stays = t .same r h (unmoved .r-a) (unmoved .r-b)

@@ -22,8 +22,8 @@ use Rattle.rules.specs.Merge.{isAlong, isOpposite, isEqual, sharedSide, fits, n
 use Rattle.rules.specs.declared.Vertex.{Vertex}
 use Rattle.rules.specs.declared.Pair.{Pair}
 use Rattle.rules.specs.declared.Shared.the-variants.{NoSide}
-use Rattle.laws.specs.Merge.{shared-ind}
 use Rattle.laws.specs.Ring.{next-below}
+use Rattle.laws.specs.Shared.{shared-ind}
 
 -- ---- the stamp of a list of corners
 

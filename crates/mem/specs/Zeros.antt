@@ -1,6 +1,6 @@
 -- Words with zeros behind them, so many in all: what becomes of them as others are written over their end. Assumes nothing.
--- Key: `zeros-put`: other words, and zeros behind them, in the place of the last ones; `zeros-in`: other words over the first of the last ones; `zeros-behind`: zeros over zeros; `swallowed`: words over all that was
--- written before.
+-- Key: `zeros-put`: other words, and zeros behind them, in the place of the last ones; `zeros-in`: other words over the first of the last ones;
+-- `zeros-behind`: zeros over zeros; `swallowed`: words over all that was written before.
 use mathlib.Core.Path.{_≡_, refl, sym, ap, _∙_}
 use mathlib.Core.List.{List, [], _∷_, _++_, append-assoc, append-nil}
 use Prim.Native.Nat.{ℕ, zero, suc, _+_, _-_, _≤_, _<_}

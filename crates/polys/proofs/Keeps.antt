@@ -77,7 +77,8 @@ module _ {w : List ℕ} {ro r nvp : ℕ} {vs : List Vertex} {ps : List Polygon} 
 
 -- ---- words behind the polygons are written
 
-module _ {w : List ℕ} {vo nv o np nvp ro : ℕ} (ready : RowsReady w vo nv o np nvp ro) {v : List ℕ} (at : ℕ) (xs : List ℕ) (far : ro ≤ at) (e : v ≡ splice w at xs) where
+module _ {w : List ℕ} {vo nv o np nvp ro : ℕ} (ready : RowsReady w vo nv o np nvp ro) {v : List ℕ} (at : ℕ) (xs : List ℕ) (far : ro ≤ at)
+    (e : v ≡ splice w at xs) where
   pub vertices-under : verticesAt v vo nv ≡ verticesAt w vo nv
   unfolding verticesAt
   vertices-under = rw e (blocks-after vertexIn w at vo vertexSize nv xs (omega (arith, ready .ready .behind, ready .behind)))

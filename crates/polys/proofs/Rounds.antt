@@ -70,10 +70,14 @@ wiped-size w ro np = length-splice w ro (replicate (np * rowSize) 0)
 
 -- where they are not, nothing is said of them
 pub kept-not : {w : List ℕ} {vo nv o np nvp ro : ℕ} {t : Bool} → RowsReady w vo nv o np nvp ro → t ≡ false → KeptIf w w vo nv o np nvp ro t
-kept-not ready z = record { rows = record { rows = ready; kept = λ (y : _ ≡ true). absurd (true≢false (sym y ∙ z)) }; same = refl }
+kept-not ready z = record { rows = record { rows = ready; kept = λ (y : _ ≡ true). absurd (true≢false (sym y ∙ z)) }; same = refl; still = λ y. refl }
 
-pub kept-all : {w v : List ℕ} {vo nv o np nvp ro : ℕ} (t : Bool) → RowsKept w v vo nv o np nvp ro → KeptIf w v vo nv o np nvp ro t
-kept-all t k = record { rows = record { rows = k .kept .rows; kept = λ y. k .kept }; same = k .same }
+pub kept-all : {w v : List ℕ} {vo nv o np nvp ro : ℕ} {t : Bool} → RowsKept w v vo nv o np nvp ro → t ≡ true → KeptIf w v vo nv o np nvp ro t
+kept-all k z = record {
+  rows = record { rows = k .kept .rows; kept = λ y. k .kept };
+  same = k .same;
+  still = λ (y : _ ≡ false). absurd (true≢false (sym z ∙ y));
+}
 
 -- ---- the loop of `merge_pairs`
 
@@ -114,7 +118,9 @@ module _ {w₀ : List ℕ} {vo nv o np nvp ro : ℕ} (rows₀ : RowsReady w₀ v
           let j = join-ready wiped-ready (g .joining) m best h in
           record {
             fits = omega (arith, j .fits, wiped-size w ro np);
-            tidy = tidy-under (ready-under (g .kept .rows) ro (replicate (np * rowSize) 0) (omega arith) (wiped-is w ro np)) (view w ro (np * rowSize)) (wiped-back w ro np room) (j .tidy);
+            tidy =
+                tidy-under (ready-under (g .kept .rows) ro (replicate (np * rowSize) 0) (omega arith) (wiped-is w ro np)) (view w ro (np * rowSize))
+                (wiped-back w ro np room) (j .tidy);
             small = rw there at (j .small);
             joinable = rw there at (j .joinable);
             most = j .most;
@@ -205,7 +211,8 @@ module _ {w₀ : List ℕ} {vo nv o np nvp ro : ℕ} (rows₀ : RowsReady w₀ v
   pub merged-over : {v : List ℕ} {r : ℕ} → MergedTo (wiped w₀ ro np) v vo nv o np nvp r → MergedOver w₀ v vo nv o np nvp ro r
   merged-over {v} {r} t =
       let z : List ℕ = replicate (np * rowSize) 0 in
-      let vs : verticesAt (wiped w₀ ro np) vo nv ≡ verticesAt w₀ vo nv = vertices-under rows₀ ro (replicate (np * rowSize) 0) (omega arith) (wiped-is w₀ ro np) in
+      let vs : verticesAt (wiped w₀ ro np) vo nv ≡ verticesAt w₀ vo nv =
+      vertices-under rows₀ ro (replicate (np * rowSize) 0) (omega arith) (wiped-is w₀ ro np) in
       let ps : polygonsAt (wiped w₀ ro np) o np ≡ polygonsAt w₀ o np = polygons-under rows₀ ro (replicate (np * rowSize) 0) (omega arith) (wiped-is w₀ ro np) in
       let qs = mergeAll (verticesAt w₀ vo nv) nvp (polygonsAt w₀ o np) in
       let xs = polygonRecords (qs ++ replicate (np - r) noPolygon) in
@@ -226,7 +233,9 @@ module _ {w₀ : List ℕ} {vo nv o np nvp ro : ℕ} (rows₀ : RowsReady w₀ v
           good = good;
           tidy = blanked-tidy w₀ o np (rows₀ .ready .fits) b;
         };
-        is = (rw (vs, ps) at (t .is)) ∙ rw (wiped-is w₀ ro np, wiped-is (splice w₀ o xs) ro np) (sym (splice-comm w₀ o ro xs z (omega (arith, long, rows₀ .behind))));
+        is =
+            (rw (vs, ps) at (t .is))
+            ∙ rw (wiped-is w₀ ro np, wiped-is (splice w₀ o xs) ro np) (sym (splice-comm w₀ o ro xs z (omega (arith, long, rows₀ .behind))));
       }
 
   pub merged-none : {v : List ℕ} → nvp ≤ 3 → v ≡ splice w₀ ro (replicate (np * rowSize) 0) → MergedOver w₀ v vo nv o np nvp ro np

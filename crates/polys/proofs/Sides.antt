@@ -10,6 +10,7 @@ use lib.ListN.{length}
 use Rattle.mem.specs.Loops.{Left, turn, next, end}
 use Rattle.rules.specs.Lists.{down}
 use Rattle.laws.specs.Lists.{down-turn}
+use Rattle.laws.specs.Ring.{next-in}
 use Rattle.rules.specs.Mesh.{sideStart, sideEnd}
 use Rattle.rules.specs.Merge.{isAlong, isOpposite, isEqual, sidesAt, orSides, sharedBy, sharedSide}
 use Rattle.rules.specs.declared.Shared.{Shared}
@@ -50,7 +51,7 @@ module _ (a b : List ℕ) where
   pub record Row (i j : ℕ) : Type 0 where
     pub left : Left NoSide orSides (sidesAt a b i) (λ x. x) (sharedBy a b i) (length b) j
 
-  pub row-start : (i : ℕ) → Row i 0
+  row-start : (i : ℕ) → Row i 0
   unfolding sharedBy
   row-start i = record { left = record { same = refl } }
 
@@ -65,6 +66,22 @@ module _ (a b : List ℕ) where
 
     pub row-end : length b ≤ j → NoSide ≡ sharedBy a b i
     row-end h = sym (end (r .left) h)
+
+  -- a polygon of no sides
+  pub row-none : (i : ℕ) → length b ≡ 0 → NoSide ≡ sharedBy a b i
+  row-none i e = row-end (row-start i) (omega arith)
+
+  -- the same, with the corner in hand where side j starts
+  pub record RowFrom (i j c : ℕ) : Type 0 where
+    pub row : Row i j
+    pub start : j < length b → c ≡ sideStart b j
+
+  pub from-start : (i : ℕ) {c : ℕ} → c ≡ sideStart b 0 → RowFrom i 0 c
+  from-start i e = record { row = row-start i; start = λ h. e }
+
+  -- a side ends where the next one starts
+  pub from-more : {i j c d : ℕ} → RowFrom i j c → j < length b → isEqual a b i j ≡ false → d ≡ sideEnd b j → RowFrom i (j + 1) d
+  from-more {j} r h e f = record { row = row-next (r .row) h e; start = λ (k : j + 1 < length b). f ∙ rw (next-in j (length b) k) refl }
 
   -- the test on four corners in hand
   pub equal-made : (i j : ℕ) {p q u v : ℕ} {t : Bool} → p ≡ sideStart a i → q ≡ sideEnd a i → u ≡ sideStart b j → v ≡ sideEnd b j

@@ -15,7 +15,8 @@ use Rattle.rules.specs.declared.Vertex.{Vertex}
 use Rattle.rules.specs.declared.Pair.{Pair}
 use Rattle.rules.specs.declared.Shared.the-variants.{Sides, NoSide}
 use Rattle.laws.specs.Lists.{all-at}
-use Rattle.laws.specs.Merge.{Good, Below, shared-at}
+use Rattle.laws.specs.Merge.{Good, Below}
+use Rattle.laws.specs.Shared.{shared-at}
 use Rattle.records.specs.Layout.{polygonSize, mostCorners, verticesAt, polygonsAt}
 use Rattle.records.specs.Values.{cornersFrom, Stands, CornerOf}
 use Rattle.records.specs.Polygons.{length-polygons}

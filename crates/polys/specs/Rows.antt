@@ -1,7 +1,7 @@
 -- The kept rows of the merge in the buffer: their words, what the functions ask for, and what they leave. What a row is, and which ones a join makes stale, is
 -- in `laws` (`Rows`, `Stamps`). Definitions only.
 use mathlib.Core.Path.{_≡_}
-use mathlib.Core.Bool.{Bool, true}
+use mathlib.Core.Bool.{Bool, true, false}
 use mathlib.Core.List.{List, [], _∷_}
 use Prim.Native.Nat.{ℕ, _+_, _*_, _^_, _≤_, _<_}
 use lib.ListN.{length, getD, replicate}
@@ -108,10 +108,11 @@ pub record RenewIf (w : List ℕ) (vo nv o np nvp ro a b : ℕ) (t : Bool) : Typ
   pub rows : RowsReady w vo nv o np nvp ro
   pub kept : t ≡ true → AllRenewable w vo nv o np nvp ro a b
 
--- and every word but those of the rows is as it was
+-- and every word but those of the rows is as it was; where none are kept, every word
 pub record KeptIf (w v : List ℕ) (vo nv o np nvp ro : ℕ) (t : Bool) : Type 0 where
   pub rows : RowsIf v vo nv o np nvp ro t
   pub same : wiped v ro np ≡ wiped w ro np
+  pub still : t ≡ false → v ≡ w
 
 -- the polygons are to be merged, and behind them there is room for their rows
 pub record MergeRoom (w : List ℕ) (vo nv o np nvp ro : ℕ) : Type 0 where

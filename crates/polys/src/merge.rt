@@ -24,7 +24,7 @@ use rules::Pair;
 use words::fill::fill;
 
 // Up to so many polygons no rows are kept, and all pairs are looked at after each join: that is quicker there.
-const FEW: usize = 8;
+const FEW: usize = 7;
 
 // The region of a join.
 fn joined_region(a: u32, b: u32) -> u32

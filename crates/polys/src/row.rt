@@ -112,7 +112,8 @@ pub fn keep_row(
     r: usize,
 )
     requires { ⌜ KeptFrom (now work) vo nv o np nvp ro (r + 1) × (r < np) ⌝ }
-    ensures { λ _. ⌜ now (work .exit) ≡ splice (now (work .entry)) (ro + r * rowSize) (rowRecord (verticesAt (now (work .entry)) vo nv) nvp (polygonsAt (now (work .entry)) o np) r) ⌝ }
+    ensures { λ _. ⌜ now (work .exit) ≡ splice (now (work .entry)) (ro + r * rowSize)
+        (rowRecord (verticesAt (now (work .entry)) vo nv) nvp (polygonsAt (now (work .entry)) o np) r) ⌝ }
 {
     let s = stamp_from(work, o + r * POLYGON_SIZE);
     let m = stamped_row(work, vo, nv, o, np, nvp, ro, r, s);

@@ -122,7 +122,8 @@ fn renew_row(
     r: usize,
 )
     requires { ⌜ Renewable (now work) vo nv o np nvp ro a b r ⌝ }
-    ensures { λ _. ⌜ now (work .exit) ≡ splice (now (work .entry)) (ro + r * rowSize) (rowRecord (verticesAt (now (work .entry)) vo nv) nvp (polygonsAt (now (work .entry)) o np) r) ⌝ }
+    ensures { λ _. ⌜ now (work .exit) ≡ splice (now (work .entry)) (ro + r * rowSize)
+        (rowRecord (verticesAt (now (work .entry)) vo nv) nvp (polygonsAt (now (work .entry)) o np) r) ⌝ }
 {
     let m = row_at(work, ro, r);
     if is_stale(work, vo, nv, o, np, nvp, ro, a, b, r, m) {

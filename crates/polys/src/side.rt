@@ -27,7 +27,10 @@ pub fn is_opposite(a: u32, b: u32, c: u32, d: u32) -> bool
 fn is_equal(a: u32, b: u32, c: u32, d: u32) -> bool
     ensures { λ r. ⌜ r ≡ ((eqb a c && eqb b d) || (eqb a d && eqb b c)) ⌝ }
 {
-    is_along(a, b, c, d) | is_opposite(a, b, c, d)
+    if is_along(a, b, c, d) {
+        return true;
+    }
+    is_opposite(a, b, c, d)
 }
 
 // Side i of the first, and the first side of the second that is equal to it.
@@ -38,11 +41,17 @@ fn shared_by(work: &[u32], at: usize, bt: usize, i: usize) -> Shared
     let a = corner_from(work, at, i);
     let b = end_from(work, at, i);
     let n = count_from(work, bt);
+    if n == 0 {
+        return Shared::NoSide;
+    }
+    let mut c = corner_from(work, bt, 0);
     let mut j = 0;
     while j < n {
-        if is_equal(a, b, corner_from(work, bt, j), end_from(work, bt, j)) {
+        let d = end_from(work, bt, j);
+        if is_equal(a, b, c, d) {
             return Shared::Sides(i, j);
         }
+        c = d;
         j += 1;
     }
     Shared::NoSide

@@ -1,4 +1,5 @@
-// Runs the sheets of data/ one after the other: document 01's, one refusal of each number that a sheet can have, the limits, and line ends.
+// Runs the sheets of data/ one after the other: document 01's, meshes with removals and with merges that a tie or a moved polygon decides, one
+// refusal of each number that a sheet can have, the limits, and line ends.
 use libc::STDOUT_FILENO;
 
 // Writes the case's name, and what is printed for it.
@@ -28,6 +29,8 @@ fn meshes() {
     case(b"removal");
     case(b"closed_hole");
     case(b"two_regions");
+    case(b"equal_pairs");
+    case(b"last_moves");
 }
 
 // Refusals of the build, and of the sheet.

@@ -4,7 +4,8 @@ use lib.ListN.{length}
 use mathlib.Core.Path.{_∙_}
 use native.Mathlib.Omega.{arith}
 use Rattle.holes.specs.Places.{was-done, was-stuck}
-use Rattle.contours.proofs.Adds.{contour-cut-ready, contour-weld-ready, contour-mesh-ready, polygons-fit, add-over, add-answer, stuck-words, stuck-answer}
+use Rattle.contours.proofs.Adds.{contour-cut-ready, contour-weld-ready, contour-mesh-ready, polygons-fit}
+use Rattle.contours.proofs.Adds.{add-over, add-answer, stuck-words, stuck-answer}
 use borrow.Author.Needs.{needs}
 use Rattle.contours.proofs.add.add_contour.Statement.{statement}
 use Rattle.contours.proofs.add.add_contour.Tie as tie
@@ -60,22 +61,29 @@ fill-requires-2 c κs = omega (arith, c .before .before .before .before .fill .k
 
 add-t21 : tie.Need-add-t21
 add-t21 c =
-    let h = c .before .before .before .before .before .before .before .before .before .before .before .before .before .before .before .before .before .before .before .before .before .before .before .before .cut-contour in
-    let x = was-done _ _ (rw (c .before .before .before .before .before .before .before .before .before .before .before .before .before .before .before .before .before .before .before .before .k .given .1) at (h .ensures .0)) in
-    record { fits = omega (arith, short-enough (c .before .before .before .before .before .before .before .before .before .before .before .before .before .before .before .before .before .before .before .before .before .before .before .before .before .before .before .before), polygons-fit (c .before .before .before .before .before .before .before .before .before .before .before .before .before .before .before .before .before .before .before .before .before .before .before .before .before .before .before .before .before .pre) (h .ensures .1) (x .ts) (x .is) (c .before .before .before .before .before .before .before .before .before .before .before .before .before .before .before .before .before .weld-contour .ensures) (x .count) (c .before .before .before .before .before .before .before .before .before .before .before .mesh-contour .ensures .meshed)) }
+    let m = c .before .before .before .before .before .before .before .before .before .before .before in
+    let y = m .before .before .before .before .before .before in
+    let k = y .before .before .before in
+    let h = k .before .before .before .before in
+    let x = was-done _ _ (rw (k .k .given .1) at (h .cut-contour .ensures .0)) in
+    let f = polygons-fit (h .before .before .before .before .before .pre) (h .cut-contour .ensures .1) (x .ts) (x .is) (y .weld-contour .ensures) (x .count) (m .mesh-contour .ensures .meshed) in
+    record { fits = omega (arith, short-enough (h .before .before .before .before), f) }
 
 same-length : tie.Need-same-length
 same-length c = c .before .before .fill2 .kept .0 ∙ c .before .before .before .before .before .before .before .fill .kept .0 ∙ c .before .before .before .before .before .before .before .before .before .before .before .mesh-contour .kept .0 ∙ c .before .before .before .before .before .before .before .before .before .before .before .before .before .before .before .before .before .weld-contour .kept .0 ∙ c .before .before .before .before .before .before .before .before .before .before .before .before .before .before .before .before .before .before .before .before .before .before .before .before .cut-contour .kept .0
 
 returns : tie.Need-returns
 returns c =
-    let s = c .before .before .before .before .before .before .before .before .before .before .before .before .before .before .before .before .before .before .before .before .before .before .before .before .before .before .before .before .before in
-    let h = c .before .before .before .before .before .before .before .before .before .before .before .before .before .before .before .before .before .before .before .before .before .before .before .before .cut-contour in
-    let x = was-done _ _ (rw (c .before .before .before .before .before .before .before .before .before .before .before .before .before .before .before .before .before .before .before .before .k .given .1) at (h .ensures .0)) in
-    let y = c .before .before .before .before .before .before .before .before .before .before .before .before .before .before .before .before .before .weld-contour .ensures in
-    let m = c .before .before .before .before .before .before .before .before .before .before .before .mesh-contour .ensures in (
-      add-answer (s .pre) (h .ensures .1) (x .ts) (x .is) y (x .count) (m .meshed),
-      add-over (s .pre) (h .ensures .1) (x .ts) (x .is) y (x .count) (m .meshed) (m .is) (c .before .before .before .before .before .before .before .fill .ensures) (c .before .before .fill2 .ensures),
+    let m = c .before .before .before .before .before .before .before .before .before .before .before in
+    let y = m .before .before .before .before .before .before in
+    let k = y .before .before .before in
+    let h = k .before .before .before .before in
+    let s = h .before .before .before .before .before in
+    let x = was-done _ _ (rw (k .k .given .1) at (h .cut-contour .ensures .0)) in
+    let e = m .mesh-contour .ensures in (
+      add-answer (s .pre) (h .cut-contour .ensures .1) (x .ts) (x .is) (y .weld-contour .ensures) (x .count) (e .meshed),
+      add-over (s .pre) (h .cut-contour .ensures .1) (x .ts) (x .is) (y .weld-contour .ensures) (x .count) (e .meshed) (e .is)
+          (c .before .before .before .before .before .before .before .fill .ensures) (c .before .before .fill2 .ensures),
     )
 
 enum-known-k-2 : tie.Need-enum-known-k-2

@@ -29,7 +29,11 @@ same-length : tie.Need-same-length
 same-length c = search needs
 
 returns : tie.Need-returns
-returns c = let s = c .before .before .before .before .before .before .before .before .before .before .before .before .before in meshed-over (s .pre) (s .args .c .region) (s .args .c .code) (c .before .before .before .before .before .before .before .before .before .before .shape-contour .ensures) (c .before .before .before .before .before .before .merge-polys .ensures) (c .before .before .fill .ensures)
+returns c =
+    let m = c .before .before .before .before .before .before in
+    let e = m .before .before .before .before in
+    let s = e .before .before .before in
+    meshed-over (s .pre) (s .args .c .region) (s .args .c .code) (e .shape-contour .ensures) (m .merge-polys .ensures) (c .before .before .fill .ensures)
 
 pub mesh-contour-spec : {M : Type 1} → statement M
 mesh-contour-spec =

@@ -21,7 +21,10 @@ same-length c = search needs
 
 -- src/fill.rt:110:1
 returns : tie.Need-returns
-returns c = meshed-over (c .before .before .before .before .before .before .before .before .before .pre) (c .before .before .before .before .before .before .shape-triangles .ensures) (c .before .before .merge-polys .ensures)
+returns c =
+    let m = c .before .before in
+    let e = m .before .before .before .before in
+    meshed-over (e .before .before .before .pre) (e .shape-triangles .ensures) (m .merge-polys .ensures)
 
 pub mesh-hole-spec : {M : Type 1} → statement M
 mesh-hole-spec =

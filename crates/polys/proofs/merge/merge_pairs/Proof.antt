@@ -1,4 +1,4 @@
--- `polys::merge::merge_pairs` meets its contract: R4 on the polygons that are left gives what R4 on all of them gives, whether rows are kept or not. Assumes nothing.
+-- `polys::merge::merge_pairs` meets its contract: R4 on the polygons that are left gives what R4 on all of them gives, with rows or without. Assumes nothing.
 use Prim.Native.Nat.{_<_}
 use Rattle.polys.proofs.Rounds.{Going, going-begin, going-some, going-join, going-renew, going-more, going-end}
 use borrow.Author.Needs.{needs}
@@ -51,7 +51,8 @@ renew-if-requires c κs =
     let k = c .before .before .before .before .before .before .before in
     let s = k .before .before .before .before in
     let j = c .before .before .before .join-pair in
-    going-renew (s .pre .0 .rows) (s .pre .1) (k .before .before .loop .inv) _ (k .best-if .ensures) (some-length (c .before .before .before .before .before)) (j .kept .0) (j .ensures)
+    going-renew (s .pre .0 .rows) (s .pre .1) (k .before .before .loop .inv) _ (k .best-if .ensures)
+    (some-length (c .before .before .before .before .before)) (j .kept .0) (j .ensures)
 
 loop-less : tie.Need-loop-less Inv-loop μ-loop
 loop-less c = let h = left-some (c .before .before .before .before .before .before .before .before) in search needs
@@ -60,10 +61,11 @@ loop-again : tie.Need-loop-again Inv-loop μ-loop
 loop-again c =
     let k = c .before .before .before .before .before .before .before .before .before .before in
     let s = k .before .before .before .before in
+    let e = c .before .before .before .before .before .before .before .before in
     let j = c .before .before .before .before .before .before .join-pair in
     let n = c .before .before .renew-if in
-    going-more (s .pre .0 .rows) (s .pre .1) (k .before .before .loop .inv) _ (k .best-if .ensures) (some-length (c .before .before .before .before .before .before .before .before)) (j .kept .0) (j .ensures)
-    (n .kept .0) (n .ensures)
+    going-more (s .pre .0 .rows) (s .pre .1) (k .before .before .loop .inv) _ (k .best-if .ensures)
+    (some-length e) (j .kept .0) (j .ensures) (n .kept .0) (n .ensures)
 
 pub merge-pairs-spec : {M : Type 1} → statement M
 merge-pairs-spec =

@@ -1,4 +1,4 @@
--- `polys::merge::merge_polys` meets its contract: the rows are made where there are many, the polygons are merged, and the rows' room is wiped. Assumes nothing.
+-- `polys::merge::merge_polys` meets its contract: rows are made where there are many, the polygons are merged, and the rows' room is wiped. Assumes nothing.
 use Rattle.polys.proofs.Rounds.{merged-none, kept-tidy, merged-rows}
 use borrow.Author.Needs.{needs}
 use Rattle.polys.proofs.merge.merge_polys.Statement.{statement}
@@ -14,7 +14,9 @@ same-length : tie.Need-same-length
 same-length c = search needs
 
 returns : tie.Need-returns
-returns c = let s = c .before .before .before .before .before .before in merged-none (s .pre .rows) (s .pre .tidy) (c .before .before .before .before .if1 .taken) (c .before .before .fill .ensures)
+returns c =
+    let s = c .before .before .before .before .before .before in
+    merged-none (s .pre .rows) (s .pre .tidy) (c .before .before .before .before .if1 .taken) (c .before .before .fill .ensures)
 
 keep-if-requires : tie.Need-keep-if-requires
 keep-if-requires c κs = search needs
@@ -36,9 +38,11 @@ same-length-2 c = search needs
 
 returns-2 : tie.Need-returns-2
 returns-2 c =
-    let k = c .before .before .before .before .before .before .before .before .before .before in
+    let m = c .before .before .before .before .before .before in
+    let k = m .before .before .before .before in
     let s = k .before .before .before .before in
-    merged-rows (s .pre .rows) (s .pre .tidy) (k .keep-if .kept .0) (k .keep-if .ensures) _ (c .before .before .before .before .before .before .merge-pairs .ensures) (c .before .before .fill2 .ensures)
+    merged-rows (s .pre .rows) (s .pre .tidy) (k .keep-if .kept .0) (k .keep-if .ensures) _
+    (m .merge-pairs .ensures) (c .before .before .fill2 .ensures)
 
 pub merge-polys-spec : {M : Type 1} → statement M
 merge-polys-spec =

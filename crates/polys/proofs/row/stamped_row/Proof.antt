@@ -38,7 +38,8 @@ loop-less c = search needs
 loop-again : tie.Need-loop-again Inv-loop μ-loop
 loop-again c =
     let s = c .before .before .before .before .before .before in
-    row-more _ (s .args .nvp) _ (c .before .before .before .loop .inv) (c .before .before .loop-test .taken) (c .before .stamped-value .ensures) (c .greater .ensures)
+    let g = c .before .before .before .loop in
+    row-more _ (s .args .nvp) _ (g .inv) (c .before .before .loop-test .taken) (c .before .stamped-value .ensures) (c .greater .ensures)
 
 returns : tie.Need-returns Inv-loop μ-loop
 returns c =

@@ -6,10 +6,12 @@ use Rattle.polys.proofs.rows.is_reached.Statement.{statement}
 use Rattle.polys.proofs.rows.is_reached.Tie as tie
 
 returns : tie.Need-returns
-returns c = sym (reached-before (c .before .before .pre) (c .before .before .args .q) (c .before .before .args .l) (c .if1 .taken))
+returns c = let s = c .before .before in sym (reached-before (s .pre) (s .args .q) (s .args .l) (c .if1 .taken))
 
 returns-2 : tie.Need-returns-2
-returns-2 c = sym (reached-past (c .before .before .before .pre) (c .before .before .before .args .q) (c .before .before .before .args .l) (c .before .if1 .left) (c .if2 .taken))
+returns-2 c =
+    let s = c .before .before .before in
+    sym (reached-past (s .pre) (s .args .q) (s .args .l) (c .before .if1 .left) (c .if2 .taken))
 
 stamped-value-requires : tie.Need-stamped-value-requires
 stamped-value-requires c κs = search needs
@@ -19,8 +21,9 @@ is-rival-requires c κs = search needs
 
 returns-3 : tie.Need-returns-3
 returns-3 c =
-    let s = c .before .before .before .before .before in
-    reached-if (s .pre) (s .args .q) (s .args .l) (c .before .before .before .if1 .left) (c .before .before .if2 .left) (c .before .stamped-value .ensures) (c .is-rival .ensures)
+    let e = c .before .before in
+    let s = e .before .before .before in
+    reached-if (s .pre) (s .args .q) (s .args .l) (e .before .if1 .left) (e .if2 .left) (c .before .stamped-value .ensures) (c .is-rival .ensures)
 
 pub is-reached-spec : {M : Type 1} → statement M
 is-reached-spec =

@@ -1,4 +1,4 @@
--- `polys::rows::is_stale` meets its contract: each answer is the definition with its tests known; a polygon that did not move has the stamp of its row. Assumes nothing.
+-- `polys::rows::is_stale` meets its contract: each answer is the definition with its tests known; what did not move has the stamp of its row. Assumes nothing.
 use Rattle.polys.proofs.Renews.{renew-stamped, stale-moved, stale-first, stale-second}
 use borrow.Author.Needs.{needs}
 use Rattle.polys.proofs.rows.is_stale.Statement.{statement}
@@ -33,9 +33,11 @@ is-reached-requires-2 c κs =
 
 returns-3 : tie.Need-returns-3
 returns-3 c =
-    let k = c .before .before .before .before .before in
+    let e = c .before in
+    let k = e .before .before .before .before in
     let s = k .before .before in
-    stale-second (s .pre) (s .args .m) (k .is-moved .ensures) (c .before .before .before .before .if1 .left) (c .before .before .is-reached .ensures) (c .before .if2 .left) (c .is-reached2 .ensures)
+    stale-second (s .pre) (s .args .m) (k .is-moved .ensures) (e .before .before .before .if1 .left) (e .before .is-reached .ensures) (e .if2 .left)
+    (c .is-reached2 .ensures)
 
 pub is-stale-spec : {M : Type 1} → statement M
 is-stale-spec =

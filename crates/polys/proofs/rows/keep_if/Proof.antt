@@ -11,7 +11,7 @@ same-length : tie.Need-same-length
 same-length c = search needs
 
 returns : tie.Need-returns
-returns c = kept-all _ (c .before .before .keep-rows .ensures)
+returns c = kept-all (c .before .before .keep-rows .ensures) (c .before .before .before .before .if1 .taken)
 
 returns-2 : tie.Need-returns-2
 returns-2 c = kept-not (c .before .before .pre) (c .if1 .left)

@@ -27,7 +27,9 @@ loop-less : tie.Need-loop-less Inv-loop μ-loop
 loop-less c = search needs
 
 loop-again : tie.Need-loop-again Inv-loop μ-loop
-loop-again c = keeping-more (c .before .before .before .before .before .loop .inv) (c .before .before .before .before .loop-test .taken) (c .before .before .keep-row .ensures)
+loop-again c =
+    let t = c .before .before .before .before in
+    keeping-more (t .before .loop .inv) (t .loop-test .taken) (c .before .before .keep-row .ensures)
 
 same-length : tie.Need-same-length Inv-loop μ-loop
 same-length c = c .before .loop .inv .size

@@ -23,7 +23,9 @@ same-length-2 : tie.Need-same-length-2
 same-length-2 c = search needs
 
 returns-2 : tie.Need-returns-2
-returns-2 c = renew-not (c .before .before .before .before .before .before .pre) (c .before .before .before .row-at .ensures) (c .before .is-stale .ensures) (c .if1 .left)
+returns-2 c =
+    let k = c .before .before .before in
+    renew-not (k .before .before .before .pre) (k .row-at .ensures) (c .before .is-stale .ensures) (c .if1 .left)
 
 pub renew-row-spec : {M : Type 1} → statement M
 renew-row-spec =

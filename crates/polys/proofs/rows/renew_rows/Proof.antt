@@ -1,4 +1,4 @@
--- `polys::rows::renew_rows` meets its contract: the rows from r on are those of the polygons that are there now, and the others are as they were. Assumes nothing.
+-- `polys::rows::renew_rows` meets its contract: the rows from r on are those of the polygons that are there now, the others are as they were. Assumes nothing.
 use Rattle.polys.proofs.Keeps.{Keeping, keeping-begin, keeping-more, keeping-end}
 use Rattle.polys.proofs.Renews.{renewable-at}
 use borrow.Author.Needs.{needs}
@@ -24,7 +24,9 @@ loop-less : tie.Need-loop-less Inv-loop μ-loop
 loop-less c = search needs
 
 loop-again : tie.Need-loop-again Inv-loop μ-loop
-loop-again c = keeping-more (c .before .before .before .before .before .loop .inv) (c .before .before .before .before .loop-test .taken) (c .before .before .renew-row .ensures)
+loop-again c =
+    let t = c .before .before .before .before in
+    keeping-more (t .before .loop .inv) (t .loop-test .taken) (c .before .before .renew-row .ensures)
 
 same-length : tie.Need-same-length Inv-loop μ-loop
 same-length c = c .before .loop .inv .size
