@@ -27,10 +27,14 @@ pub mod Links
 pub mod Longest
 pub mod Stamps
 pub mod Rows
--- the statements of `rules`: Areas, Fuel, Widths, Exits, Sentences, Distance
+-- R1's tests, made quicker: rings of few sides, numbers aside of others
+pub mod Diagonals
+pub mod Aside
+-- the statements of `rules`: Areas, Fuel, Widths, Exits, Sentences, Distance, Boxes
 pub mod Laws
 pub mod Fuel
 pub mod Widths
 pub mod Exits
 pub mod Sentences
 pub mod Distance
+pub mod Boxes

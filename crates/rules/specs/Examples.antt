@@ -1,7 +1,7 @@
 -- K1 to K12 of the document, and behind them rows of our own: a single table under a single statement, proved by computing. The rows of our own are there
 -- because the document's rows don't notice every change to a rule; each says what it shows.
 use mathlib.Core.Path.{_≡_, refl}
-use mathlib.Core.Bool.{true, false}
+use mathlib.Core.Bool.{Bool, true, false}
 use mathlib.Core.List.{List, [], _∷_, _++_, map}
 use Prim.Native.Nat.{ℕ, _+_}
 use Prim.Native.String.{String}
@@ -10,7 +10,7 @@ use lib.Ieee.{Float, mul, ofBits}
 use lib.ListN.{length, getD, replicate}
 use Rattle.mem.specs.Packed.{packed}
 use Rattle.rules.specs.Computing.{rules}
-use Rattle.rules.specs.Plane.{squared}
+use Rattle.rules.specs.Plane.{squared, intersect}
 use Rattle.rules.specs.Ears.{keyOf}
 use Rattle.rules.specs.Weld.{weldAll, bucket}
 use Rattle.rules.specs.Mesh.{Polygon}
@@ -22,6 +22,7 @@ use Rattle.rules.specs.Checks.{Lent, leastLengths, Checked, passed, refu
 use Rattle.rules.specs.Build.{Outcome, refused, built, weldHeight, outcome, replyOf}
 use Rattle.rules.specs.Exits.{exits}
 use Rattle.rules.specs.Areas.{meshArea}
+use Rattle.rules.specs.Boxes.{boxesApart, areApart}
 use Rattle.rules.specs.Units.{perInch, millimetres}
 use Rattle.rules.specs.Distance.{unit}
 use Rattle.rules.specs.Lines.{ascii}
@@ -89,6 +90,8 @@ pub data Example : Type 0 where
   measures : CellSize → Float → Example
   -- a sheet, and what is printed for it
   prints : String → String → Example
+  -- two segments: whether their boxes don't meet, whether both have a length too, and whether they cross or touch
+  parts : Point → Point → Point → Point → List Bool → Example
 
 unfoldable pub Holds : Example → Type 0
 Holds (builds j s) = seen (outcome j (room 0 j)) ≡ s
@@ -99,6 +102,7 @@ Holds (stands x z k) = bucket x z ≡ k
 Holds (checks j c) = checkV j ≡ c
 Holds (measures c x) = millimetres c ≡ x
 Holds (prints s t) = textOf (ascii s) ≡ ascii t
+Holds (parts a b c d ts) = boxesApart a b c d ∷ areApart a b c d ∷ intersect a b c d ∷ [] ≡ ts
 
 -- each of a list of examples holds
 infixr 20 _&_
@@ -455,6 +459,19 @@ examples =
     "refused\t1\t2\n" ∷
     prints "unit\tmm\ncell\t1\t1\nnvp\t3\ngrid\t0\t0\t0\ncontour\t1\t7\t4\nv\t4\t0\t0\t0\nv\t4\t0\t4\t0\nv\t0\t0\t4\t0\nv\t0\t0\t0\t0\n"
     "refused\t7\t0\n" ∷
+    -- far sides: the side is beyond the diagonal's box in x, above and below it, in z, above and below it, and by one cell at the limit
+    parts (p 0 0) (p 4 4) (p 5 0) (p 9 9) (three true true false) ∷
+    parts (p 9 9) (p 5 0) (p 4 4) (p 0 0) (three true true false) ∷
+    parts (p 0 4) (p 4 0) (p 0 5) (p 4 9) (three true true false) ∷
+    parts (p 0 5) (p 4 9) (p 0 4) (p 4 0) (three true true false) ∷
+    parts (p 0 0) (p 32766 32767) (p 32767 0) (p 32767 32767) (three true true false) ∷
+    -- far sides: boxes that share a corner meet, and so do these segments; one end, or one end a way, beyond the box isn't enough
+    parts (p 0 0) (p 4 4) (p 4 4) (p 9 9) (three false false true) ∷
+    parts (p 0 0) (p 4 4) (p 5 0) (p 0 5) (three false false true) ∷
+    parts (p 0 0) (p 4 4) (p 5 3) (p 3 5) (three false false true) ∷
+    -- far sides: a segment of no length is touched from outside its box, whichever of the two it is
+    parts (p 0 0) (p 0 1) (p 1 0) (p 1 0) (three true false true) ∷
+    parts (p 1 0) (p 1 0) (p 0 0) (p 0 1) (three true false true) ∷
     []
 
 -- each row holds
@@ -463,4 +480,6 @@ unfolding rules numbersOf seen ended room Holds mul ofBits
 all-hold =
     refl & refl & refl & refl & refl & refl & refl & refl & refl & refl & refl & refl & refl & refl & refl & refl & refl & refl & refl & refl &
     refl & refl & refl & refl & refl & refl & refl & refl & refl & refl & refl & refl & refl & refl & refl & refl & refl & refl & refl & refl &
-    refl & refl & refl & refl & refl & refl & refl & refl & refl & refl & refl & refl & refl & refl & refl & refl & refl & refl & refl & refl & refl & refl & refl & refl & refl & refl & refl & refl & refl & refl & refl & refl & refl & refl & refl & end
+    refl & refl & refl & refl & refl & refl & refl & refl & refl & refl & refl & refl & refl & refl & refl & refl & refl & refl & refl & refl &
+    refl & refl & refl & refl & refl & refl & refl & refl & refl & refl & refl & refl & refl & refl & refl & refl & refl & refl & refl & refl &
+    refl & refl & refl & refl & refl & end

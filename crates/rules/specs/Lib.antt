@@ -36,6 +36,8 @@ pub mod Areas
 pub mod Fuel
 pub mod Widths
 pub mod Sentences
+-- further requests: boxes that don't meet
+pub mod Boxes
 -- K1 to K12, and one name that opens all definitions so that examples compute
 pub mod Computing
 pub mod Examples
