@@ -5,6 +5,8 @@ pub mod Bits
 pub mod Rings
 -- the search for an ear
 pub mod Tries
+-- sides that stop a diagonal, and those apart from its box
+pub mod Stops
 -- a part of the buffer, and what each function writes into it
 pub mod Parts
 -- one cut after the other

@@ -1,14 +1,20 @@
 // R1: strict and loose diagonals of the ring whose index words are ix, over the points pts.
 ghost use mathlib.Core.Path.{_≡_};
-ghost use mathlib.Core.Bool.{not};
+ghost use mathlib.Core.Bool.{not, _&&_};
 ghost use Prim.Native.Nat.{_<_};
+ghost use lib.Dec.{ltb, eqb};
 ghost use lib.ListN.{length};
+ghost use Rattle.rules.specs.Lists as Lists;
 ghost use Rattle.rules.specs.Plane.{InGrid};
-ghost use Rattle.rules.specs.Diagonal.{leftBy, inCone, atEnds, sharesEnd, hits, stops, isBlocked, isDiagonal};
+ghost use Rattle.rules.specs.Diagonal.{leftBy, inCone, atEnds, sharesEnd, hits, isBlocked, isDiagonal};
 ghost use Rattle.rules.specs.Ears.{pointAt};
 ghost use Rattle.plane.specs.Points.{pointsIn};
-ghost use Rattle.ears.specs.Ring.{Ring, Ends};
+ghost use Rattle.plane.specs.Boxes.{boundsOf};
+ghost use Rattle.ears.specs.Ring.{Ring, Ends, sideStops};
 use crate::index::index_of;
+use plane::bounds::Bounds;
+use plane::bounds::are_apart;
+use plane::bounds::bounds_of;
 use plane::measure::point_at;
 use plane::ring::next;
 use plane::ring::prev;
@@ -77,47 +83,71 @@ pub fn corner(pts: &[u32], ix: &[u32], k: usize) -> Point
     point_at(pts, v)
 }
 
-// Whether the side at place k stops the diagonal from place i, where a stands, to place j, where b stands.
+// Whether the side from place k, where c stands, to place l, where d stands, stops the diagonal from place i, where a
+// stands, to place j, where b stands. One that is apart from the diagonal's box t doesn't: nothing else is asked of it.
 fn does_stop(
     kind: Kind,
-    pts: &[u32],
-    ix: &[u32],
     i: usize,
     j: usize,
     a: Point,
     b: Point,
+    t: Bounds,
     k: usize,
+    l: usize,
+    c: Point,
+    d: Point,
 ) -> bool
-    requires { ⌜ Ring (now pts) (now ix) × Ends (now pts) (now ix) i j a b × (k < length (now ix)) ⌝ }
-    ensures { λ r. ⌜ r ≡ stops kind (pointAt (pointsIn (now (pts .entry))) (now (ix .entry))) (length (now (ix .entry))) i j k ⌝ }
+    requires { ⌜ InGrid a × InGrid b × InGrid c × InGrid d × (t ≡ boundsOf a b) ⌝ }
+    ensures { λ r. ⌜ r ≡ sideStops kind i j a b k l c d ⌝ }
 {
-    let l = next(k, ix.len());
+    if are_apart(t, c, d) {
+        return false;
+    }
     if at_ends(i, j, k, l) {
         return false;
     }
-    let c = corner(pts, ix, k);
-    let d = corner(pts, ix, l);
     if shares_end(a, b, c, d) {
         return false;
     }
     is_hit(kind, a, b, c, d)
 }
 
-// Whether no side stops that diagonal: Rust's `is_diagonal_internal_or_external`, and its loose twin.
+// Whether j is i+2 in a ring of at most four places. Then every side is at place i or j.
+fn leaves_no_side(i: usize, j: usize, n: usize) -> bool
+    ensures { λ r. ⌜ r ≡ (ltb n 5 && eqb j (Lists.next (Lists.next i n) n)) ⌝ }
+{
+    if n < 5 {
+        j == next(next(i, n), n)
+    } else {
+        false
+    }
+}
+
+// Whether no side stops that diagonal: Rust's `is_diagonal_internal_or_external`, and its loose twin. The diagonal's box
+// is made once, and each turn reads one point: c stands at place k.
 fn is_clear(kind: Kind, pts: &[u32], ix: &[u32], i: usize, j: usize, a: Point, b: Point) -> bool
     requires { ⌜ Ring (now pts) (now ix) × Ends (now pts) (now ix) i j a b ⌝ }
     ensures { λ r. ⌜ r ≡ not (isBlocked kind (pointAt (pointsIn (now (pts .entry))) (now (ix .entry))) (length (now (ix .entry))) i j) ⌝ }
 {
     let n = ix.len();
-    let mut clear = true;
-    let mut k = 0;
-    while k < n {
-        if does_stop(kind, pts, ix, i, j, a, b, k) {
-            clear = false;
-            break;
-        }
-        k += 1;
+    if leaves_no_side(i, j, n) {
+        return true;
     }
+    let t = bounds_of(a, b);
+    let mut c = corner(pts, ix, 0);
+    let mut k = 0;
+    let clear = loop {
+        if n <= k {
+            break true;
+        }
+        let l = next(k, n);
+        let d = corner(pts, ix, l);
+        if does_stop(kind, i, j, a, b, t, k, l, c, d) {
+            break false;
+        }
+        c = d;
+        k += 1;
+    };
     clear
 }
 
