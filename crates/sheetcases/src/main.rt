@@ -1,5 +1,5 @@
-// Runs the sheets of data/ one after the other: document 01's, meshes with removals and with merges that a tie or a moved polygon decides, one
-// refusal of each number that a sheet can have, the limits, and line ends.
+// Runs the sheets of data/ one after the other: document 01's, meshes with removals, with merges that a tie or a moved polygon decides, with sides that
+// a box must not pass over, one refusal of each number that a sheet can have, the limits, and line ends.
 use libc::STDOUT_FILENO;
 
 // Writes the case's name, and what is printed for it.
@@ -31,6 +31,7 @@ fn meshes() {
     case(b"two_regions");
     case(b"equal_pairs");
     case(b"last_moves");
+    case(b"boxes_touch");
 }
 
 // Refusals of the build, and of the sheet.
@@ -43,6 +44,7 @@ fn refusals() {
     case(b"refused_21");
     case(b"refused_22");
     case(b"refused_24");
+    case(b"no_length");
 }
 
 // The limits, and the ends of lines.
