@@ -26,7 +26,8 @@ use Rattle.rules.specs.Removal.{holds, untouchedSide, sideInto, untouched, Taki
 use Rattle.rules.specs.Areas.{sumOf}
 use Rattle.laws.specs.Lists.{All, none, more, all-append, all-at, all-of, sum-append, gather, map-append, swap-perm, swap-length}
 use Rattle.laws.specs.Ring.{next-in, next-out}
-use Rattle.laws.specs.Sides.{path, path-map, area-round, D-start, D-end}
+use Rattle.laws.specs.Sides.{path, path-map, D-start, D-end}
+use Rattle.laws.specs.Outlines.{area-round}
 
 -- ---- the untouched sides, from one corner to the next
 sidesOn : ℕ → Polygon → ℕ → List ℕ → List Side

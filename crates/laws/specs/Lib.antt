@@ -10,6 +10,7 @@ pub mod Measures
 pub mod Ears
 pub mod Weld
 pub mod Shared
+pub mod Joins
 pub mod Merge
 pub mod Around
 pub mod Walks
@@ -30,7 +31,7 @@ pub mod Rows
 -- R1's tests, made quicker: rings of few sides, numbers aside of others
 pub mod Diagonals
 pub mod Aside
--- the statements of `rules`: Areas, Fuel, Widths, Exits, Sentences, Distance, Boxes
+-- the statements of `rules`: Areas, Fuel, Widths, Exits, Sentences, Distance, Boxes, Outlines
 pub mod Laws
 pub mod Fuel
 pub mod Widths
@@ -38,3 +39,4 @@ pub mod Exits
 pub mod Sentences
 pub mod Distance
 pub mod Boxes
+pub mod Outlines

@@ -1,102 +1,32 @@
 -- R4: a join cancels a side and its opposite, so merging keeps the area and the corners over two; the pair that is joined is in range. Assumes nothing.
 -- Key: `merged`: the polygons at the end have the area and the corners beyond two of those at the start, and are stored polygons; `best-in`: the pair is in range.
-use Prim.Native.Nat.{ℕ, zero, suc, _+_, _-_, _%_, _≤_, _<_}
+use Prim.Native.Nat.{ℕ, zero, suc, _+_, _-_, _≤_, _<_}
 use native.Mathlib.Omega.{arith}
-use native.Mathlib.Nat.{mod-eq-of-lt, add-zero}
-use mathlib.Core.Path.{_≡_, refl, sym, _∙_, ap, ap₂}
+use mathlib.Core.Path.{_≡_, refl, _∙_, ap₂}
 use mathlib.Core.Bool.{Bool, true, false, cond, _&&_}
-use mathlib.Core.Logic.{⊎-elim}
-use mathlib.Core.List.{List, [], _∷_, _++_, map, List·Permᴰ, List·Permᴰ·cons, List·Permᴰ·trans}
+use mathlib.Core.List.{List, [], _∷_, List·Permᴰ, List·Permᴰ·cons, List·Permᴰ·trans}
 use lib.Dec.{eqb, ltb}
 use borrow.Author.Tests.{eqb-true, leb-true, ltb-true}
-use lib.ListN.{length, take, drop, getD, set, length-append, length-set, length-take, length-drop, List·getD-append, take-append-drop}
-use lib.Seq.{getD-take, getD-drop, ext-getD, getD-append-add, getD-set-other}
+use lib.ListN.{length, getD, set, length-append, length-set}
+use lib.Seq.{getD-set-other}
 use lib.IntN.{ℤ, _+ℤ_}
 use Rattle.ints.specs.Ring.{at, _⊕_}
 use Rattle.ints.specs.Order.{ints, told}
 use Rattle.ints.specs.Bools.{and-left, and-right, cond-ind}
 use Rattle.mem.specs.Loops.{each-ind}
-use Rattle.mem.specs.Cases.{lt-or-le}
-use Rattle.mem.specs.Tab.{tab, length-tab, getD-tab}
-use Rattle.rules.specs.declared.Point.{Point}
 use Rattle.rules.specs.declared.Vertex.{Vertex}
 use Rattle.rules.specs.declared.Pair.{Pair}
 use Rattle.rules.specs.declared.Shared.{Shared}
 use Rattle.rules.specs.declared.Shared.the-variants.{Sides, NoSide}
-use Rattle.rules.specs.Plane.{area, squared}
-use Rattle.rules.specs.Lists.{next}
+use Rattle.rules.specs.Plane.{squared}
 use Rattle.rules.specs.Mesh.{Polygon, noPolygon, polygonAt, sideStart, sideEnd, placeOf}
 use Rattle.rules.specs.Merge.{isOpposite, sharedSide, turnsLeft, mayJoin, fits, noPair, pairAt, mergeValue, greater, bestOfRow, bestPair, pastSide, joined, joinPair, mergeLoop, mergeAll}
 use Rattle.rules.specs.Areas.{sumOf, pointsOf, polygonArea}
+use Rattle.rules.specs.Outlines.{turned}
 use Rattle.laws.specs.Measures.{areaOf, spareOf, sparesIn}
-use Rattle.laws.specs.Lists.{All, none, more, all-imp, all-append, all-at, all-perm, all-take, all-drop, all-tail, all-left, map-append, set-perm, swap-perm, sum-perm, total, total-perm}
-use Rattle.laws.specs.Sides.{area-join, area-rotate}
-use Rattle.laws.specs.Ring.{mod-once, next-remainder}
+use Rattle.laws.specs.Lists.{All, none, more, all-imp, all-append, all-at, all-perm, all-take, all-drop, all-tail, all-left, set-perm, swap-perm, sum-perm, total, total-perm}
+use Rattle.laws.specs.Joins.{past-ring, length-past, area-joined}
 use Rattle.laws.specs.Shared.{SidesIn, shared-in}
-
--- ---- a ring from past one of its sides on
-ring-at : (cs : List ℕ) (e k : ℕ) → e < length cs → k < length cs → getD cs ((e + 1 + k) % length cs) 0 ≡ getD (drop (e + 1) cs ++ take (e + 1) cs) k 0
-ring-at cs e k h i = ⊎-elim
-    (λ (a : e + 1 + k < length cs). let d = length-drop (e + 1) cs in
-    rw (mod-eq-of-lt a, List·getD-append (drop (e + 1) cs) (take (e + 1) cs) 0 k (omega arith), getD-drop (e + 1) cs k 0) refl)
-    (λ (a : length cs ≤ e + 1 + k). let d = length-drop (e + 1) cs in
-    let q : k ≡ length (drop (e + 1) cs) + (e + 1 + k - length cs) = omega arith in
-    rw (mod-once (e + 1 + k) (length cs) a (omega arith))
-    (sym (getD-take (e + 1) cs (e + 1 + k - length cs) 0 (omega arith)) ∙ sym (getD-append-add (drop (e + 1) cs) (take (e + 1) cs) (e + 1 + k - length cs) 0)
-    ∙ ap (λ (j : ℕ). getD (drop (e + 1) cs ++ take (e + 1) cs) j 0) (sym q)))
-    (lt-or-le (e + 1 + k) (length cs))
-
--- past the side e, and then the side's start: all corners, from the side's end on
-pub past-ring : (cs : List ℕ) (e : ℕ) → e < length cs → pastSide cs e ++ (getD cs e 0 ∷ []) ≡ drop (e + 1) cs ++ take (e + 1) cs
-unfolding pastSide tab
-past-ring cs e h = ends ∙ ext-getD 0 (tab round (length cs)) (drop (e + 1) cs ++ take (e + 1) cs) lengths (λ k i. let j : k < length cs = rw (length-tab round (length cs)) at i in getD-tab round (length cs) k 0 j ∙ ring-at cs e k h j)
-  where
-    round : ℕ → ℕ
-    round k = getD cs ((e + 1 + k) % length cs) 0
-
-    lengths : length (tab round (length cs)) ≡ length (drop (e + 1) cs ++ take (e + 1) cs)
-    lengths = simp (length-tab, length-append, length-take, length-drop) (omega arith)
-
-    last : round (length cs - 1) ≡ getD cs e 0
-    last = let q : (e + 1 + (length cs - 1)) % length cs ≡ e = mod-once (e + 1 + (length cs - 1)) (length cs) (omega arith) (omega arith) ∙ omega arith in ap (λ (j : ℕ). getD cs j 0) q
-
-    ends : tab round (length cs - 1) ++ (getD cs e 0 ∷ []) ≡ tab round (length cs)
-    ends = let q : suc (length cs - 1) ≡ length cs = omega arith in rw (← last) (ap (tab round) q)
-
-pub length-past : (cs : List ℕ) (e : ℕ) → length (pastSide cs e) ≡ length cs - 1
-unfolding pastSide
-length-past cs e = length-tab _ (length cs - 1)
-
-cons-of : (l : List ℕ) (a : ℕ) → 0 < length l → getD l 0 0 ≡ a → l ≡ a ∷ drop 1 l
-cons-of [] a h e = absurd (omega arith)
-cons-of (x ∷ l) a h e = ap (λ (y : ℕ). y ∷ l) e
-
-first-past : (cs : List ℕ) (e : ℕ) → e < length cs → 2 ≤ length cs → getD (pastSide cs e) 0 0 ≡ getD cs (next e (length cs)) 0
-unfolding pastSide
-first-past cs e h k = getD-tab (λ k. getD cs ((e + 1 + k) % length cs) 0) (length cs - 1) 0 0 (omega arith) ∙ ap (λ (j : ℕ). getD cs j 0) (ap (λ (k : ℕ). k % length cs) (add-zero (e + 1)) ∙ sym (next-remainder e (length cs) h))
-
--- it begins with the side's end
-pub past-first : (cs : List ℕ) (e : ℕ) → e < length cs → 2 ≤ length cs → pastSide cs e ≡ getD cs (next e (length cs)) 0 ∷ drop 1 (pastSide cs e)
-past-first cs e h k = cons-of (pastSide cs e) (getD cs (next e (length cs)) 0) (omega (arith, length-past cs e)) (first-past cs e h k)
-
--- ---- the join of two rings
-module _ (pl : ℕ → Point) where
-  area-past : (cs : List ℕ) (e : ℕ) → e < length cs → area (map pl (pastSide cs e ++ (getD cs e 0 ∷ []))) ≡ area (map pl cs)
-  area-past cs e h =
-      rw (past-ring cs e h, map-append pl (drop (e + 1) cs) (take (e + 1) cs)) (area-rotate (map pl (drop (e + 1) cs)) (map pl (take (e + 1) cs))
-      ∙ ap area (sym (map-append pl (take (e + 1) cs) (drop (e + 1) cs)) ∙ ap (map pl) (take-append-drop (e + 1) cs)))
-
-  join-lists : (s t : ℕ) (k l : List ℕ) → area (map pl ((t ∷ k) ++ (s ∷ l))) ≡ area (map pl ((t ∷ k) ++ (s ∷ []))) +ℤ area (map pl ((s ∷ l) ++ (t ∷ [])))
-  join-lists s t k l = rw (map-append pl k (s ∷ l), map-append pl k (s ∷ []), map-append pl l (t ∷ [])) (area-join (pl s) (pl t) (map pl k) (map pl l))
-
-  pub area-joined : (a b : List ℕ) (i j : ℕ) → i < length a → j < length b → 2 ≤ length a → 2 ≤ length b → sideStart a i ≡ sideEnd b j → sideEnd a i ≡ sideStart b j
-      → area (map pl (pastSide a i ++ pastSide b j)) ≡ area (map pl a) +ℤ area (map pl b)
-  area-joined a b i j h k la lb p q =
-      ap (λ (l : List ℕ). area (map pl l)) (ap₂ _++_ (past-first a i h la) (past-first b j k lb))
-      ∙ join-lists (sideEnd b j) (sideEnd a i) (drop 1 (pastSide a i)) (drop 1 (pastSide b j))
-      ∙ ap₂ _+ℤ_
-      (ap (λ (l : List ℕ). area (map pl l)) (ap₂ (λ (l : List ℕ) (s : ℕ). l ++ (s ∷ [])) (sym (past-first a i h la)) (sym p)) ∙ area-past a i h)
-      (ap (λ (l : List ℕ). area (map pl l)) (ap₂ (λ (l : List ℕ) (s : ℕ). l ++ (s ∷ [])) (sym (past-first b j k lb)) q) ∙ area-past b j k)
 
 -- ---- the pair that is joined
 pub record Joinable (nvp : ℕ) (ps : List Polygon) (m : Pair) : Type 0 where
@@ -191,6 +121,7 @@ join-perm nvp ps m j =
     (swap-perm noPolygon (set ps (m .a) J) (m .b) (rw (length-set ps (m .a) J) (j .below)))))
 
 pub past-inside : {P : ℕ → Type 0} (cs : List ℕ) (e : ℕ) → e < length cs → All P cs → All P (pastSide cs e)
+unfolding turned
 past-inside cs e h a = all-left (pastSide cs e) (getD cs e 0 ∷ []) (rw (past-ring cs e h) (all-append (all-drop (e + 1) a) (all-take (e + 1) a)))
 
 pub length-joined : (p q : Polygon) (i j : ℕ) → length (joined p q i j .corners) ≡ (length (p .corners) - 1) + (length (q .corners) - 1)
@@ -219,7 +150,7 @@ pub joined-area : (vs : List Vertex) (p q : Polygon) (i j : ℕ) → i < length 
     → sideStart (p .corners) i ≡ sideEnd (q .corners) j → sideEnd (p .corners) i ≡ sideStart (q .corners) j
     → polygonArea vs (joined p q i j) ≡ polygonArea vs p +ℤ polygonArea vs q
 unfolding joined polygonArea pointsOf
-joined-area vs p q i j h k la lb s e = area-joined (placeOf vs) (p .corners) (q .corners) i j h k la lb s e
+joined-area vs p q i j h k la lb s e = area-joined (p .corners) (q .corners) i j h k la lb s e (placeOf vs)
 
 pub join-once : (vs : List Vertex) (P : ℕ → Type 0) (nvp : ℕ) (ps : List Polygon) (m : Pair) → Joinable nvp ps m → All (Good P nvp) ps → Merged vs P nvp ps (joinPair ps m)
 unfolding sumOf total

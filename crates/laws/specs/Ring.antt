@@ -1,21 +1,23 @@
 -- Places in a ring: the next one and the one before; and the corner that goes when an ear is cut. Assumes nothing.
 -- Key: `area-without`: the area of a list is that of the triangle at any place and of the list without the place after it.
-use Prim.Native.Nat.{ℕ, zero, suc, _+_, _-_, _%_, _≤_, _<_}
+use Prim.Native.Nat.{ℕ, suc, _+_, _-_, _%_, _≤_, _<_}
 use native.Mathlib.Nat.{mod-eq-of-lt, mod-eq-sub-mod}
 use native.Mathlib.Omega.{arith}
-use mathlib.Core.Path.{_≡_, refl, sym, _∙_, ap}
-use mathlib.Core.Logic.{⊎-elim}
-use mathlib.Core.List.{List, [], _∷_, _++_, append-assoc, append-nil}
+use mathlib.Core.Path.{_≡_, refl, sym, _∙_, ap, ap₂}
+use mathlib.Core.Logic.{⊎-elim, _≢_}
+use mathlib.Core.List.{List, [], _∷_, _++_, append-nil}
 use borrow.Author.Tests.{lt-ltb, le-ltb, le-leb, lt-leb}
 use lib.ListN.{length, take, drop, getD, drop-of-length-le}
-use lib.Seq.{take-suc, drop-cons, split-at}
-use lib.IntN.{ℤ, _+ℤ_}
+use lib.Seq.{length-take-le, take-all, take-suc, take-add, drop-cons, drop-at}
+use lib.IntN.{_+ℤ_}
 use Rattle.mem.specs.Cases.{lt-or-le}
 use Rattle.rules.specs.declared.Point.{Point}
 use Rattle.rules.specs.Plane.{D, area}
 use Rattle.rules.specs.Lists.{next, prev, without}
 use Rattle.rules.specs.Sentences.{NextIsRemainder, PrevIsRemainder}
-use Rattle.laws.specs.Sides.{area-rotate, area-ear}
+use Rattle.rules.specs.Outlines.{arc}
+use Rattle.laws.specs.Sides.{area-triangle}
+use Rattle.laws.specs.Outlines.{turned-append, turned-area, cut-area}
 
 pub next-in : (i n : ℕ) → i + 1 < n → next i n ≡ i + 1
 unfolding next
@@ -58,83 +60,77 @@ prev-remainder i n h = ⊎-elim
     (λ (k : 1 ≤ i). prev-in i n k ∙ sym (mod-once (i + n - 1) n (omega arith) (omega arith) ∙ omega arith))
     (lt-or-le i 1)
 
--- ---- a list around a place
-module _ {A : Type 0} where
-  three : (l : List A) (i : ℕ) (d : A) → i + 2 < length l → l ≡ take i l ++ (getD l i d ∷ (getD l (i + 1) d ∷ (getD l (i + 2) d ∷ drop (i + 3) l)))
-  three l i d h =
-      let p : i + 1 ≡ suc i = omega arith in let q : i + 2 ≡ suc (suc i) = omega arith in let r : i + 3 ≡ suc (suc (suc i)) = omega arith in
-      split-at l i d (omega arith)
-      ∙ ap (λ (s : List A). take i l ++ (getD l i d ∷ s)) (drop-cons l (suc i) d (omega arith))
-      ∙ ap (λ (s : List A). take i l ++ (getD l i d ∷ (getD l (suc i) d ∷ s))) (drop-cons l (suc (suc i)) d (omega arith))
-      ∙ rw (p, q, r) refl
+-- ---- an ear, at any place of the ring: cut between the place i and the one after next, c; a is the place between them, which goes
+record EarAt {A : Type 0} (l : List A) (d : A) (i a c : ℕ) : Type 0 where
+  ear : arc l i c ≡ getD l i d ∷ (getD l a d ∷ (getD l c d ∷ []))
+  rest : arc l c i ≡ drop (a + 1) l ++ take a l
+  different : i ≢ c
 
-  two : (l : List A) (i : ℕ) (d : A) → i + 2 ≡ length l → l ≡ take i l ++ (getD l i d ∷ (getD l (i + 1) d ∷ []))
-  two l i d h =
-      let p : i + 1 ≡ suc i = omega arith in
-      split-at l i d (omega arith)
-      ∙ ap (λ (s : List A). take i l ++ (getD l i d ∷ s)) (drop-cons l (suc i) d (omega arith))
-      ∙ ap (λ (s : List A). take i l ++ (getD l i d ∷ (getD l (suc i) d ∷ s))) (drop-of-length-le l {i = suc (suc i)} (omega arith))
-      ∙ rw p refl
+module _ {A : Type 0} (l : List A) (d : A) where
+  ahead : (i : ℕ) → i < length l → drop i l ≡ getD l i d ∷ drop (i + 1) l
+  ahead i h = let e : i + 1 ≡ suc i = omega arith in rw e (drop-cons l i d h)
 
-  one : (l : List A) (i : ℕ) (d : A) → i + 1 ≡ length l → l ≡ take i l ++ (getD l i d ∷ [])
-  one l i d h = split-at l i d (omega arith) ∙ ap (λ (s : List A). take i l ++ (getD l i d ∷ s)) (drop-of-length-le l {i = suc i} (omega arith))
+  none-left : (i : ℕ) → length l ≤ i → drop i l ≡ []
+  none-left i h = drop-of-length-le l {i = i} h
 
-  without-middle : (l : List A) (i : ℕ) (d : A) → i + 2 < length l → without l (i + 1) ≡ take i l ++ (getD l i d ∷ (getD l (i + 2) d ∷ drop (i + 3) l))
-  unfolding without
-  without-middle l i d h =
-      let p : i + 1 ≡ suc i = omega arith in let q : i + 1 + 1 ≡ i + 2 = omega arith in let r : suc (i + 2) ≡ i + 3 = omega arith in
-      rw (q, drop-cons l (i + 2) d h, r, p, take-suc l i d (omega arith), append-assoc (take i l) (getD l i d ∷ []) (getD l (i + 2) d ∷ drop (i + 3) l))
+  first-one : 1 ≤ length l → take 1 l ≡ getD l 0 d ∷ []
+  first-one h = take-suc l 0 d h
 
-  without-last : (l : List A) (i : ℕ) (d : A) → i + 2 ≡ length l → without l (i + 1) ≡ take i l ++ (getD l i d ∷ [])
-  unfolding without
-  without-last l i d h =
-      let p : i + 1 ≡ suc i = omega arith in
-      rw (drop-of-length-le l {i = i + 1 + 1} (omega arith), p, take-suc l i d (omega arith), append-nil (take i l ++ (getD l i d ∷ [])))
+  first-two : 2 ≤ length l → take 2 l ≡ getD l 0 d ∷ (getD l 1 d ∷ [])
+  first-two h = take-suc l 1 d h ∙ ap (λ (s : List A). s ++ (getD l 1 d ∷ [])) (first-one (omega arith))
 
--- ---- an ear, at any place of the ring
-turn-last : (c : Point) (m : List Point) (a b : Point) → area ((c ∷ m) ++ (a ∷ (b ∷ []))) ≡ D a b c +ℤ area ((c ∷ m) ++ (a ∷ []))
-turn-last c m a b = area-rotate (c ∷ m) (a ∷ (b ∷ [])) ∙ area-ear [] a b c m ∙ ap (λ (z : ℤ). D a b c +ℤ z) (area-rotate (a ∷ []) (c ∷ m))
+  middle : (i : ℕ) → i + 2 < length l → EarAt l d i (i + 1) (i + 2)
+  unfolding arc
+  middle i h =
+      let up = length-take-le i l (omega arith) in
+      let p : i + 2 + 1 ≡ i + 3 = omega arith in let q : i + 1 + 1 ≡ i + 2 = omega arith in
+      record {
+        ear =
+            rw (le-leb i (i + 2) (omega arith), p, take-add i 3 l, drop-at (take i l) (take 3 (drop i l)) i up)
+            (rw (ahead i (omega arith), ahead (i + 1) (omega arith), q, ahead (i + 2) h) refl);
+        rest = rw (lt-leb (i + 2) i (omega arith), q) refl;
+        different = λ e. absurd (omega arith);
+      }
 
-turn-first : (b c : Point) (m : List Point) (a : Point) → area ((b ∷ (c ∷ m)) ++ (a ∷ [])) ≡ D a b c +ℤ area ((c ∷ m) ++ (a ∷ []))
-turn-first b c m a = area-rotate (b ∷ (c ∷ m)) (a ∷ []) ∙ area-ear [] a b c m ∙ ap (λ (z : ℤ). D a b c +ℤ z) (area-rotate (a ∷ []) (c ∷ m))
+  last : (i : ℕ) → 0 < i → i + 2 ≡ length l → EarAt l d i (i + 1) 0
+  unfolding arc
+  last i h k =
+      let e = none-left (i + 1 + 1) (omega arith) in
+      record {
+        ear = rw (lt-leb i 0 h, ahead i (omega arith), ahead (i + 1) (omega arith), e, first-one (omega arith)) refl;
+        rest = rw (le-leb 0 i (omega arith), e) refl;
+        different = λ e. absurd (omega arith);
+      }
 
--- what is cut at i, and the ring without the place after i
-Ear : List Point → ℕ → Point → Type 0
-Ear l i d = area l ≡ D (getD l i d) (getD l (next i (length l)) d) (getD l (next (next i (length l)) (length l)) d) +ℤ area (without l (next i (length l)))
+  first : (i : ℕ) → 1 < i → i + 1 ≡ length l → EarAt l d i 0 1
+  unfolding arc
+  first i h k =
+      let e = none-left (i + 1) (omega arith) in
+      record {
+        ear = rw (lt-leb i 1 h, ahead i (omega arith), e, first-two (omega arith)) refl;
+        rest = rw (le-leb 1 i (omega arith), take-all (i + 1) l (omega arith)) (sym (append-nil (drop 1 l)));
+        different = λ e. absurd (omega arith);
+      }
 
-middle : (l : List Point) (i : ℕ) (d : Point) → i + 2 < length l → Ear l i d
-unfolding Ear
-middle l i d h =
-    let q : i + 1 + 1 ≡ i + 2 = omega arith in
-    rw (next-in i (length l) (omega arith), next-in (i + 1) (length l) (omega arith), q, without-middle l i d h)
-    (ap area (three l i d h) ∙ area-ear (take i l) (getD l i d) (getD l (i + 1) d) (getD l (i + 2) d) (drop (i + 3) l))
-
-last : (c : Point) (l : List Point) (i : ℕ) (d : Point) → suc i + 2 ≡ length (c ∷ l) → Ear (c ∷ l) (suc i) d
-unfolding Ear
-last c l i d h =
-    rw (next-in (suc i) (length (c ∷ l)) (omega arith), next-out (suc i + 1) (length (c ∷ l)) (omega arith), without-last (c ∷ l) (suc i) d h)
-    (ap area (two (c ∷ l) (suc i) d h) ∙ turn-last c (take i l) (getD (c ∷ l) (suc i) d) (getD (c ∷ l) (suc i + 1) d))
-
-first : (b c : Point) (l : List Point) (i : ℕ) (d : Point) → suc (suc i) + 1 ≡ length (b ∷ (c ∷ l)) → Ear (b ∷ (c ∷ l)) (suc (suc i)) d
-unfolding Ear without
-first b c l i d h =
-    let e : l ≡ take i l ++ (getD l i d ∷ []) = one l i d (omega arith) in
-    rw (next-out (suc (suc i)) (length (b ∷ (c ∷ l))) (omega arith), next-in 0 (length (b ∷ (c ∷ l))) (omega arith))
-    (ap (λ (s : List Point). area (b ∷ (c ∷ s))) e ∙ turn-first b c (take i l) (getD l i d) ∙ ap (λ (s : List Point). D (getD l i d) b c +ℤ area (c ∷ s)) (sym e))
-
-ear-any : (l : List Point) (i : ℕ) (d : Point) → 3 ≤ length l → i < length l → Ear l i d
-ear-any [] i d h k = absurd (omega arith)
-ear-any (b ∷ []) i d h k = absurd (omega arith)
-ear-any (b ∷ (c ∷ l)) zero d h k = middle (b ∷ (c ∷ l)) 0 d (omega arith)
-ear-any (b ∷ (c ∷ l)) (suc zero) d h k =
-    ⊎-elim (λ (e : 3 < length (b ∷ (c ∷ l))). middle (b ∷ (c ∷ l)) 1 d (omega arith)) (λ (e : length (b ∷ (c ∷ l)) ≤ 3). last b (c ∷ l) 0 d (omega arith)) (lt-or-le 3 (length (b ∷ (c ∷ l))))
-ear-any (b ∷ (c ∷ l)) (suc (suc i)) d h k =
-    ⊎-elim (λ (e : suc (suc i) + 2 < length (b ∷ (c ∷ l))). middle (b ∷ (c ∷ l)) (suc (suc i)) d e)
-    (λ (e : length (b ∷ (c ∷ l)) ≤ suc (suc i) + 2).
-    ⊎-elim (λ (f : suc (suc i) + 1 < length (b ∷ (c ∷ l))). last b (c ∷ l) (suc i) d (omega arith)) (λ (f : length (b ∷ (c ∷ l)) ≤ suc (suc i) + 1). first b c l i d (omega arith)) (lt-or-le (suc (suc i) + 1) (length (b ∷ (c ∷ l)))))
-    (lt-or-le (suc (suc i) + 2) (length (b ∷ (c ∷ l))))
+  ear-at : (i : ℕ) → 3 ≤ length l → i < length l → EarAt l d i (next i (length l)) (next (next i (length l)) (length l))
+  ear-at i h k = ⊎-elim
+      (λ (e : i + 2 < length l). let q : i + 1 + 1 ≡ i + 2 = omega arith in
+      rw (next-in i (length l) (omega arith), next-in (i + 1) (length l) (omega arith), q) (middle i e))
+      (λ (e : length l ≤ i + 2). ⊎-elim
+      (λ (f : i + 1 < length l). rw (next-in i (length l) f, next-out (i + 1) (length l) (omega arith)) (last i (omega arith) (omega arith)))
+      (λ (f : length l ≤ i + 1). rw (next-out i (length l) f, next-in 0 (length l) (omega arith)) (first i (omega arith) (omega arith)))
+      (lt-or-le (i + 1) (length l)))
+      (lt-or-le (i + 2) (length l))
 
 pub area-without : (l : List Point) (i : ℕ) (d : Point) → 3 ≤ length l → i < length l
     → area l ≡ D (getD l i d) (getD l (next i (length l)) d) (getD l (next (next i (length l)) (length l)) d) +ℤ area (without l (next i (length l)))
-unfolding Ear
-area-without l i d h k = ear-any l i d h k
+unfolding without
+area-without l i d h k =
+    let a = next i (length l) in
+    let c = next a (length l) in
+    let s = ear-at l d i h k in
+    let below = next-below i (length l) (omega arith) in
+    sym (cut-area l i c k (next-below a (length l) (omega arith)) (s .different))
+    ∙ ap₂ _+ℤ_
+    (ap area (s .ear) ∙ area-triangle (getD l i d) (getD l a d) (getD l c d))
+    (ap area (s .rest ∙ sym (turned-append (take a l) (drop (a + 1) l) a (length-take-le a l (omega (arith, below))))) ∙ turned-area (without l a) a)

@@ -15,7 +15,7 @@ use Rattle.rules.specs.Links.{none}
 use Rattle.rules.specs.Exits.{padded}
 use Rattle.rules.specs.Mesh.{cornerRound}
 use Rattle.rules.specs.Merge.{pastSide, joined}
-use Rattle.laws.specs.Merge.{length-past}
+use Rattle.laws.specs.Joins.{length-past}
 use Rattle.records.specs.Layout.{mostCorners}
 use Rattle.records.specs.Values.{cornersOf, polygonOf, Loaded, On}
 use Rattle.records.specs.Polygons.{length-corners, getD-corners, padded-splice, poly-eq}

@@ -2,15 +2,15 @@
 -- because the document's rows don't notice every change to a rule; each says what it shows.
 use mathlib.Core.Path.{_≡_, refl}
 use mathlib.Core.Bool.{Bool, true, false}
-use mathlib.Core.List.{List, [], _∷_, _++_, map}
+use mathlib.Core.List.{List, [], _∷_, _++_, map, reverse}
 use Prim.Native.Nat.{ℕ, _+_}
 use Prim.Native.String.{String}
-use lib.IntN.{ℤ, pos, negℤ}
+use lib.IntN.{ℤ, pos, negℤ, _+ℤ_}
 use lib.Ieee.{Float, mul, ofBits}
 use lib.ListN.{length, getD, replicate}
 use Rattle.mem.specs.Packed.{packed}
 use Rattle.rules.specs.Computing.{rules}
-use Rattle.rules.specs.Plane.{squared, intersect}
+use Rattle.rules.specs.Plane.{area, squared, intersect}
 use Rattle.rules.specs.Ears.{keyOf}
 use Rattle.rules.specs.Weld.{weldAll, bucket}
 use Rattle.rules.specs.Mesh.{Polygon}
@@ -23,6 +23,7 @@ use Rattle.rules.specs.Build.{Outcome, refused, built, weldHeight, outco
 use Rattle.rules.specs.Exits.{exits}
 use Rattle.rules.specs.Areas.{meshArea}
 use Rattle.rules.specs.Boxes.{boxesApart, areApart}
+use Rattle.rules.specs.Outlines.{turned, arc}
 use Rattle.rules.specs.Units.{perInch, millimetres}
 use Rattle.rules.specs.Distance.{unit}
 use Rattle.rules.specs.Lines.{ascii}
@@ -73,6 +74,14 @@ room more j =
     let nines : ℕ → List ℕ = λ k. replicate (getD (leastLengths j) k 0 + more) 9 in
     record { vertices = nines 0; polygons = nines 1; neighbours = nines 2; regions = nines 3; codes = nines 4; flags = nines 5; work = nines 6 }
 
+-- corners, and their doubled area
+pub record Outline : Type 0 where
+  pub corners : List Point
+  pub doubled : ℤ
+
+unfoldable pub outline : List Point → Outline
+outline l = record { corners = l; doubled = area l }
+
 pub data Example : Type 0 where
   -- a job in buffers just long enough, and what is seen
   builds : Job → Seen → Example
@@ -92,6 +101,12 @@ pub data Example : Type 0 where
   prints : String → String → Example
   -- two segments: whether their boxes don't meet, whether both have a length too, and whether they cross or touch
   parts : Point → Point → Point → Point → List Bool → Example
+  -- an outline, a place, and its corners turned to start there: the area stays
+  turns : Outline → ℕ → List Point → Example
+  -- an outline, and its corners reversed: the area's sign changes
+  reverses : Outline → List Point → Example
+  -- corners, two places, the outlines from the first round to the second and from the second round to the first: the areas add up
+  cuts : List Point → ℕ → ℕ → Outline → Outline → Example
 
 unfoldable pub Holds : Example → Type 0
 Holds (builds j s) = seen (outcome j (room 0 j)) ≡ s
@@ -103,6 +118,10 @@ Holds (checks j c) = checkV j ≡ c
 Holds (measures c x) = millimetres c ≡ x
 Holds (prints s t) = textOf (ascii s) ≡ ascii t
 Holds (parts a b c d ts) = boxesApart a b c d ∷ areApart a b c d ∷ intersect a b c d ∷ [] ≡ ts
+Holds (turns o k m) = outline (o .corners) ∷ outline (turned (o .corners) k) ∷ [] ≡ o ∷ record { corners = m; doubled = o .doubled } ∷ []
+Holds (reverses o m) = outline (o .corners) ∷ outline (reverse (o .corners)) ∷ [] ≡ o ∷ record { corners = m; doubled = negℤ (o .doubled) } ∷ []
+Holds (cuts l i j a b) =
+    outline l ∷ outline (arc l i j) ∷ outline (arc l j i) ∷ [] ≡ record { corners = l; doubled = a .doubled +ℤ b .doubled } ∷ a ∷ b ∷ []
 
 -- each of a list of examples holds
 infixr 20 _&_
@@ -189,6 +208,17 @@ p x z = record { x = x; z = z }
 -- "Square: (0,0),(0,4),(4,4),(4,0) as x,z."
 abbrev square : List (List ℕ)
 square = four (v 0 0) (v 0 4) (v 4 4) (v 4 0)
+
+-- an outline of this doubled area
+abbrev has : ℤ → List Point → Outline
+has a l = record { corners = l; doubled = a }
+
+-- K8's trim line, three of its points in line; and the square, with its first corner doubled and a spike from (4,4) to (6,4) and back
+abbrev trim : List Point
+trim = p 0 0 ∷ p 0 2 ∷ p 0 4 ∷ p 4 4 ∷ p 4 0 ∷ []
+
+abbrev spiked : List Point
+spiked = p 0 0 ∷ p 0 0 ∷ p 0 4 ∷ p 4 4 ∷ p 6 4 ∷ p 4 4 ∷ p 4 0 ∷ []
 
 abbrev reversed : List (List ℕ)
 reversed = four (v 4 0) (v 4 4) (v 0 4) (v 0 0)
@@ -472,14 +502,29 @@ examples =
     -- far sides: a segment of no length is touched from outside its box, whichever of the two it is
     parts (p 0 0) (p 0 1) (p 1 0) (p 1 0) (three true false true) ∷
     parts (p 1 0) (p 1 0) (p 0 0) (p 0 1) (three true false true) ∷
+    -- turned: to its third place; between the doubled corner's two; at a place past the end it is as it was
+    turns (has (minus 32) trim) 2 (p 0 4 ∷ p 4 4 ∷ p 4 0 ∷ p 0 0 ∷ p 0 2 ∷ []) ∷
+    turns (has (minus 32) spiked) 1 (p 0 0 ∷ p 0 4 ∷ p 4 4 ∷ p 6 4 ∷ p 4 4 ∷ p 4 0 ∷ p 0 0 ∷ []) ∷
+    turns (has (minus 32) trim) 6 trim ∷
+    -- reversed: the sign changes; a spike and a doubled corner change nothing; two triangles that cross have 0 both ways
+    reverses (has (minus 32) trim) (p 4 0 ∷ p 4 4 ∷ p 0 4 ∷ p 0 2 ∷ p 0 0 ∷ []) ∷
+    reverses (has (minus 32) spiked) (p 4 0 ∷ p 4 4 ∷ p 6 4 ∷ p 4 4 ∷ p 0 4 ∷ p 0 0 ∷ p 0 0 ∷ []) ∷
+    reverses (has (pos 0) (four (p 0 0) (p 4 0) (p 0 4) (p 4 4))) (four (p 4 4) (p 0 4) (p 4 0) (p 0 0)) ∷
+    -- cut: in two; in the other order; between neighbours, also round the end; off the spike, whose two places are one point; a list of two
+    cuts trim 0 3 (has (minus 16) (four (p 0 0) (p 0 2) (p 0 4) (p 4 4))) (has (minus 16) (three (p 4 4) (p 4 0) (p 0 0))) ∷
+    cuts trim 3 1 (has (minus 24) (four (p 4 4) (p 4 0) (p 0 0) (p 0 2))) (has (minus 8) (three (p 0 2) (p 0 4) (p 4 4))) ∷
+    cuts trim 0 1 (has (pos 0) (p 0 0 ∷ p 0 2 ∷ [])) (has (minus 32) (p 0 2 ∷ p 0 4 ∷ p 4 4 ∷ p 4 0 ∷ p 0 0 ∷ [])) ∷
+    cuts trim 4 0 (has (pos 0) (p 4 0 ∷ p 0 0 ∷ [])) (has (minus 32) trim) ∷
+    cuts spiked 3 5 (has (pos 0) (three (p 4 4) (p 6 4) (p 4 4))) (has (minus 32) (p 4 4 ∷ p 4 0 ∷ p 0 0 ∷ p 0 0 ∷ p 0 4 ∷ p 4 4 ∷ [])) ∷
+    cuts (p 0 0 ∷ p 0 4 ∷ []) 0 1 (has (pos 0) (p 0 0 ∷ p 0 4 ∷ [])) (has (pos 0) (p 0 4 ∷ p 0 0 ∷ [])) ∷
     []
 
 -- each row holds
 pub all-hold : AllHold examples
-unfolding rules numbersOf seen ended room Holds mul ofBits
+unfolding rules numbersOf seen ended room outline Holds mul ofBits
 all-hold =
     refl & refl & refl & refl & refl & refl & refl & refl & refl & refl & refl & refl & refl & refl & refl & refl & refl & refl & refl & refl &
     refl & refl & refl & refl & refl & refl & refl & refl & refl & refl & refl & refl & refl & refl & refl & refl & refl & refl & refl & refl &
     refl & refl & refl & refl & refl & refl & refl & refl & refl & refl & refl & refl & refl & refl & refl & refl & refl & refl & refl & refl &
     refl & refl & refl & refl & refl & refl & refl & refl & refl & refl & refl & refl & refl & refl & refl & refl & refl & refl & refl & refl &
-    refl & refl & refl & refl & refl & end
+    refl & refl & refl & refl & refl & refl & refl & refl & refl & refl & refl & refl & refl & refl & refl & refl & refl & end
