@@ -1,5 +1,6 @@
 -- A list of corners that is turned round, reversed or cut: what `rules` states in its file `Outlines`. Assumes nothing.
--- Key: `turned-area`, `reversed-area`, `cut-area`, `cut-length`; `turned-append`, `arc-there`, `arc-back`: the same of a list that is given in two parts.
+-- Key: `turned-area`, `reversed-area`, `cut-area`, `cut-length`; `turned-append`, `arc-there`, `arc-back`: turned and cut lists that are given in two parts;
+-- `area-seen`, `area-open`: what the sides give as seen from any point.
 use Prim.Native.Nat.{ℕ, _+_, _≤_, _<_}
 use native.Mathlib.Omega.{arith}
 use mathlib.Core.Path.{_≡_, refl, sym, _∙_, ap}
@@ -10,14 +11,14 @@ use borrow.Author.Tests.{le-leb, lt-leb}
 use lib.Dec.{leb}
 use lib.ListN.{length, take, drop, length-append, length-take, length-drop, take-append-drop}
 use lib.Seq.{length-take-le, drop-append-seam, take-append-le, drop-append-le, take-append-add, take-add, take-at, drop-at}
-use lib.IntN.{negℤ, _+ℤ_, +ℤ-comm}
+use lib.IntN.{ℤ, negℤ, _+ℤ_, +ℤ-idr, +ℤ-comm}
 use Rattle.ints.specs.Ring.{at, nat, neg, _⊕_, is-eq}
 use Rattle.mem.specs.Cases.{lt-or-le}
 use Rattle.rules.specs.declared.Point.{Point}
-use Rattle.rules.specs.Plane.{D, area}
+use Rattle.rules.specs.Plane.{D, fan, area}
 use Rattle.rules.specs.Outlines.{turned, arc, TurnedArea, ReversedArea, CutArea, CutLength}
 use Rattle.laws.specs.Lists.{map-append, map-take, map-drop}
-use Rattle.laws.specs.Sides.{cross, path, cross-anti, path-through, area-path, area-seen}
+use Rattle.laws.specs.Sides.{cross, path, cross-anti, cross-self, D-end, path-through, area-path, area-triangle}
 
 -- ---- a list of two parts: started at the second; cut where the second begins and at its start; and what a map makes of it
 module _ {A : Type 0} where
@@ -59,10 +60,6 @@ swapped (p ∷ l) (q ∷ m) = halves p l q m ∙ +ℤ-comm (path cross p (l ++ (
 pub turned-area : TurnedArea
 unfolding turned
 turned-area l k = swapped (drop k l) (take k l) ∙ ap area (take-append-drop k l)
-
--- the sides of a list, first the one from its last point to its first, seen from any point
-pub area-round : (v : Point) (l : List Point) (q : Point) → area (l ++ (q ∷ [])) ≡ path (D v) q (l ++ (q ∷ []))
-area-round v l q = sym (turned-area (l ++ (q ∷ [])) (length l)) ∙ ap area (turned-append l (q ∷ []) (length l) refl) ∙ area-seen v q l
 
 -- ---- reversed: each side is walked the other way
 path-back : (p : Point) (l : List Point) (q : Point) → path cross q (reverse l ++ (p ∷ [])) ≡ negℤ (path cross p (l ++ (q ∷ [])))
@@ -149,3 +146,28 @@ cut-length l i j h k n = ⊎-elim
     (λ (f : i < j). lengths-behind l i j f k)
     (λ (g : j ≤ i). let f : j < i = omega arith in omega (arith, lengths-behind l j i f h))
     (lt-or-le i j)
+
+-- ---- seen from any point v: D over the sides of a path is the area of the path with v put in front
+seen-is : (v p : Point) (l : List Point) → path (D v) p l ≡ area (v ∷ (p ∷ l))
+unfolding path area fan
+seen-is v p [] = refl
+seen-is v p (q ∷ l) = ap (λ (z : ℤ). D v p q +ℤ z) (seen-is v q l)
+
+-- an open path p, l, q, closed by the side from q to p
+pub area-open : (v p : Point) (l : List Point) (q : Point) → path (D v) p (l ++ (q ∷ [])) ≡ area (p ∷ (l ++ (q ∷ []))) +ℤ D q v p
+area-open v p l q =
+    seen-is v p (l ++ (q ∷ []))
+    ∙ swapped (v ∷ []) (p ∷ (l ++ (q ∷ []))) ∙ ap (λ (s : List Point). area (p ∷ s)) (append-assoc l (q ∷ []) (v ∷ []))
+    ∙ sym (cut-parts (p ∷ l) (q ∷ (v ∷ [])) (omega arith) (omega arith)) ∙ ap (λ (z : ℤ). area (p ∷ (l ++ (q ∷ []))) +ℤ z) (area-triangle q v p)
+
+-- the first point once more, at the end
+once-more : (p : Point) (l : List Point) → area (p ∷ (l ++ (p ∷ []))) ≡ area (p ∷ l)
+unfolding path
+once-more p l = halves p l p [] ∙ rw (cross-self p) (+ℤ-idr (path cross p (l ++ (p ∷ [])))) ∙ sym (area-path p l)
+
+pub area-seen : (v p : Point) (l : List Point) → area (p ∷ l) ≡ path (D v) p (l ++ (p ∷ []))
+area-seen v p l = sym (area-open v p l p ∙ rw (D-end p v) (+ℤ-idr (area (p ∷ (l ++ (p ∷ []))))) ∙ once-more p l)
+
+-- a list's sides, first the one from its last point to its first
+pub area-round : (v : Point) (l : List Point) (q : Point) → area (l ++ (q ∷ [])) ≡ path (D v) q (l ++ (q ∷ []))
+area-round v l q = swapped l (q ∷ []) ∙ area-seen v q l

@@ -30,7 +30,8 @@ use Rattle.rules.specs.Removal.{noPoint, holds, untouched, TakingOut, takenOut,
 use Rattle.rules.specs.Areas.{sumOf, pointsOf, polygonArea, meshArea, areaTaken}
 use Rattle.laws.specs.Measures.{areaOf, spareOf, sparesIn, takenBy}
 use Rattle.laws.specs.Lists.{All, none, more, all-append, all-at, all-perm, all-left, all-right, all-take, all-imp, all-both, all-map, all-without, length-without, map-same, map-take, getD-map-in, sum-append, sum-perm, sum-same, sum-map, sum-gather, total, total-append, total-perm, total-same, length-gather, all-gather}
-use Rattle.laws.specs.Sides.{path, path-map, area-seen, area-open}
+use Rattle.laws.specs.Sides.{path, path-map}
+use Rattle.laws.specs.Outlines.{area-seen, area-open}
 use Rattle.laws.specs.Ears.{Triangle, triangle, cutArea, triangulated, triangles-counted}
 use Rattle.laws.specs.Merge.{Good, Below, Long, Corners, merged, triangles-merged}
 use Rattle.laws.specs.Around.{seen, area-untouched, length-untouched, Clear, ClearSide, clear-untouched, TookOut, took-out, held-once, not-held}
