@@ -24,7 +24,8 @@ use Rattle.rules.specs.Merge.{isOpposite, sharedSide, turnsLeft, mayJoin, fits,
 use Rattle.rules.specs.Areas.{sumOf, pointsOf, polygonArea}
 use Rattle.rules.specs.Outlines.{turned}
 use Rattle.laws.specs.Measures.{areaOf, spareOf, sparesIn}
-use Rattle.laws.specs.Lists.{All, none, more, all-imp, all-append, all-at, all-perm, all-take, all-drop, all-tail, all-left, set-perm, swap-perm, sum-perm, total, total-perm}
+use Rattle.laws.specs.Lists.{All, none, more, all-imp, all-append, all-at, all-perm, all-take, all-drop, all-tail, all-left}
+use Rattle.laws.specs.Lists.{set-perm, swap-perm, sum-perm, total, total-perm}
 use Rattle.laws.specs.Joins.{past-ring, length-past, area-joined}
 use Rattle.laws.specs.Shared.{SidesIn, shared-in}
 

@@ -1,7 +1,7 @@
 -- A list of corners that is turned round, reversed or cut: what `rules` states in its file `Outlines`. Assumes nothing.
--- Key: `turned-area`, `reversed-area`, `cut-area`, `cut-length`; `turned-append`, `arc-there`, `arc-back`: turned and cut lists that are given in two parts;
+-- Key: `turned-area`, `reversed-area`, `cut-area`, `cut-ends`, `cut-length`; `turned-append`, `arc-there`, `arc-back`: turned and cut lists in two parts;
 -- `area-seen`, `area-open`: what the sides give as seen from any point.
-use Prim.Native.Nat.{ℕ, _+_, _≤_, _<_}
+use Prim.Native.Nat.{ℕ, _+_, _-_, _≤_, _<_}
 use native.Mathlib.Omega.{arith}
 use mathlib.Core.Path.{_≡_, refl, sym, _∙_, ap}
 use mathlib.Core.Bool.{Bool, true, false, cond}
@@ -9,14 +9,15 @@ use mathlib.Core.Logic.{⊎-elim}
 use mathlib.Core.List.{List, [], _∷_, _++_, map, append-assoc, append-nil, reverse, reverse-cons}
 use borrow.Author.Tests.{le-leb, lt-leb}
 use lib.Dec.{leb}
-use lib.ListN.{length, take, drop, length-append, length-take, length-drop, take-append-drop}
+use lib.ListN.{length, take, drop, getD, length-append, length-take, length-drop, take-append-drop, List·getD-append}
 use lib.Seq.{length-take-le, drop-append-seam, take-append-le, drop-append-le, take-append-add, take-add, take-at, drop-at}
+use lib.Seq.{getD-take, getD-drop, getD-append-add}
 use lib.IntN.{ℤ, negℤ, _+ℤ_, +ℤ-idr, +ℤ-comm}
 use Rattle.ints.specs.Ring.{at, nat, neg, _⊕_, is-eq}
 use Rattle.mem.specs.Cases.{lt-or-le}
 use Rattle.rules.specs.declared.Point.{Point}
-use Rattle.rules.specs.Plane.{D, fan, area}
-use Rattle.rules.specs.Outlines.{turned, arc, TurnedArea, ReversedArea, CutArea, CutLength}
+use Rattle.rules.specs.Plane.{D, fan, area, origin}
+use Rattle.rules.specs.Outlines.{turned, arc, TurnedArea, ReversedArea, CutArea, FromTo, CutEnds, CutLength}
 use Rattle.laws.specs.Lists.{map-append, map-take, map-drop}
 use Rattle.laws.specs.Sides.{cross, path, cross-anti, cross-self, D-end, path-through, area-path, area-triangle}
 
@@ -146,6 +147,34 @@ cut-length l i j h k n = ⊎-elim
     (λ (f : i < j). lengths-behind l i j f k)
     (λ (g : j ≤ i). let f : j < i = omega arith in omega (arith, lengths-behind l j i f h))
     (lt-or-le i j)
+
+-- the ends of each: in one piece, or past the list's end in two
+module _ (l : List Point) (i j : ℕ) (h : i < length l) (k : j < length l) where
+  up-to : length (take (j + 1) l) ≡ j + 1
+  up-to = length-take-le (j + 1) l (omega arith)
+
+  ends-ahead : i ≤ j → FromTo l i j
+  unfolding arc
+  ends-ahead f =
+      let n : length (drop i (take (j + 1) l)) - 1 ≡ j - i = omega (arith, length-drop i (take (j + 1) l), up-to) in
+      let p : i + 0 ≡ i = omega arith in let q : i + (j - i) ≡ j = omega arith in
+      record {
+        first = rw (le-leb i j f, getD-drop i (take (j + 1) l) 0 origin, p) (getD-take (j + 1) l i origin (omega arith));
+        last = rw (le-leb i j f, n, getD-drop i (take (j + 1) l) (j - i) origin, q) (getD-take (j + 1) l j origin (omega arith));
+      }
+
+  ends-round : j < i → FromTo l i j
+  unfolding arc
+  ends-round f =
+      let n : length (drop i l ++ take (j + 1) l) - 1 ≡ length (drop i l) + j = omega (arith, length-append (drop i l) (take (j + 1) l), up-to) in
+      let p : i + 0 ≡ i = omega arith in
+      record {
+        first = rw (lt-leb i j f, List·getD-append (drop i l) (take (j + 1) l) origin 0 (omega (arith, length-drop i l)), getD-drop i l 0 origin, p) refl;
+        last = rw (lt-leb i j f, n, getD-append-add (drop i l) (take (j + 1) l) j origin) (getD-take (j + 1) l j origin (omega arith));
+      }
+
+pub cut-ends : CutEnds
+cut-ends l i j h k = ⊎-elim (λ (f : j < i). ends-round l i j h k f) (λ (f : i ≤ j). ends-ahead l i j h k f) (lt-or-le j i)
 
 -- ---- seen from any point v: D over the sides of a path is the area of the path with v put in front
 seen-is : (v p : Point) (l : List Point) → path (D v) p l ≡ area (v ∷ (p ∷ l))

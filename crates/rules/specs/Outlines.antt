@@ -5,11 +5,11 @@ use mathlib.Core.Path.{_≡_}
 use mathlib.Core.Bool.{cond}
 use mathlib.Core.Logic.{_≢_}
 use mathlib.Core.List.{List, _++_, reverse}
-use Prim.Native.Nat.{ℕ, _+_, _<_}
+use Prim.Native.Nat.{ℕ, _+_, _-_, _<_}
 use lib.Dec.{leb}
 use lib.IntN.{negℤ, _+ℤ_}
-use lib.ListN.{length, take, drop}
-use Rattle.rules.specs.Plane.{area}
+use lib.ListN.{length, take, drop, getD}
+use Rattle.rules.specs.Plane.{area, origin}
 use Rattle.rules.specs.declared.Point.{Point}
 
 module _ {A : Type 0} where
@@ -33,6 +33,14 @@ ReversedArea = (l : List Point) → area (reverse l) ≡ negℤ (area l)
 abbrev pub CutArea : Type 0
 CutArea = (l : List Point) (i j : ℕ) → i < length l → j < length l → i ≢ j → area (arc l i j) +ℤ area (arc l j i) ≡ area l
 
--- "(the two places stand in both)", and no other does: together the two lists are two longer
+-- "(the two places stand in both)": from i round to j a list begins with what stands at i and ends with what stands at j, whichever comes first
+pub record FromTo (l : List Point) (i j : ℕ) : Type 0 where
+  pub first : getD (arc l i j) 0 origin ≡ getD l i origin
+  pub last : getD (arc l i j) (length (arc l i j) - 1) origin ≡ getD l j origin
+
+abbrev pub CutEnds : Type 0
+CutEnds = (l : List Point) (i j : ℕ) → i < length l → j < length l → FromTo l i j
+
+-- and no other place stands in both: together the two lists are two longer
 abbrev pub CutLength : Type 0
 CutLength = (l : List Point) (i j : ℕ) → i < length l → j < length l → i ≢ j → length (arc l i j) + length (arc l j i) ≡ length l + 2
