@@ -3,7 +3,7 @@
 -- Key: `Going`, for code that prints one text after the other; `Pieces`, the invariant of a loop that does; `packed-over` for one that goes through a list.
 use mathlib.Core.Path.{_≡_, refl, sym, ap, _∙_}
 use mathlib.Core.List.{List, [], _∷_, _++_, append-assoc, append-nil}
-use Prim.Native.Nat.{ℕ, zero, suc, _+_, _*_, _≤_, _<_}
+use Prim.Native.Nat.{ℕ, zero, suc, _+_, _-_, _*_, _≤_, _<_}
 use native.Mathlib.Nat.{zero-add, add-zero, suc-add, add-suc, sub-zero, suc-mul}
 use native.Mathlib.Omega.{arith}
 use lib.ListN.{length, getD, set, length-append}
@@ -111,7 +111,7 @@ module _ {f : ℕ → List ℕ} {n : ℕ} {whole v : List ℕ} {at : ℕ} {w : L
   pub pieces-all : n ≤ i → Printed whole v w at to
   pieces-all h = going-end (going-more (p .going) (printed-as (printed-nothing w to) (sym (over-end [] _++_ f i n h))))
 
--- n texts of at most b bytes each
+-- texts of at most b bytes each
 module _ (f : ℕ → List ℕ) (b : ℕ) where
   run-short : (m i : ℕ) → ((j : ℕ) → i ≤ j → j < i + m → length (f j) ≤ b) → length (run [] _++_ f i m) ≤ m * b
   unfolding run
@@ -119,9 +119,9 @@ module _ (f : ℕ → List ℕ) (b : ℕ) where
   run-short (suc m) i h =
       simp length-append (omega (arith, h i (omega arith) (omega arith), run-short m (suc i) (λ j a c. h j (omega arith) (omega arith)), suc-mul m b))
 
-  pub texts-short : (n : ℕ) → ((i : ℕ) → i < n → length (f i) ≤ b) → length (textsFrom f 0 n) ≤ n * b
+  pub texts-short : (i n : ℕ) → ((j : ℕ) → i ≤ j → j < n → length (f j) ≤ b) → length (textsFrom f i n) ≤ (n - i) * b
   unfolding over
-  texts-short n h = rw (sub-zero n) (run-short n 0 (λ j a c. h j (omega arith)))
+  texts-short i n h = run-short (n - i) i (λ j a c. h j a (omega arith))
 
 -- ---- the texts of a list's elements
 

@@ -280,13 +280,18 @@ builtText s (refused r) = refusedText (refusalNumber r) (refusalSecond r)
 builtText s (built m links log) =
     unitLine (s .inches) ++ (numberLine cellName (s .size ∷ s .height ∷ []) ++ meshText (record { vertices = m .vertices; polygons = m .polygons; links = links }))
 
-unfoldable pub readText : Read → List ℕ
-readText (bad number line) = refusedText number line
-readText (taken s) = builtText s (outcomeOf (s .job))
+-- what is printed for a sheet that was read as far as its end, by f
+unfoldable pub readText : (Sheet → List ℕ) → Read → List ℕ
+readText f (bad number line) = refusedText number line
+readText f (taken s) = f s
 
 -- "23 over 65,536 bytes (line 0), before all"
-unfoldable pub textOf : List ℕ → List ℕ
-textOf bytes = elim (ltb bytesMost (length bytes)) [
+unfoldable pub textBy : (Sheet → List ℕ) → List ℕ → List ℕ
+textBy f bytes = elim (ltb bytesMost (length bytes)) [
   | true ↦ refusedText 23 0
-  | false ↦ readText (readSheet (linesOf bytes))
+  | false ↦ readText f (readSheet (linesOf bytes))
 ]
+
+-- the sheet is meshed
+unfoldable pub textOf : List ℕ → List ℕ
+textOf bytes = textBy (λ s. builtText s (outcomeOf (s .job))) bytes

@@ -320,7 +320,7 @@ module _ {text : List ℕ} {from : ℕ} {p : Progress} {ls rs cs ns : List ℕ} 
         record {
           contours = t .within .few;
           vertices = omega (arith, t .within .room);
-          declared = omega (arith, t .declared, t .within .room);
+          declared = λ (z : q .refusal ≤ 0). absurd (omega arith);
           same = λ s. g .same s ∙ r .same s ∙ refused text q (soFar s q ls′ rs′ cs′ ns′) h;
         }
 
@@ -337,7 +337,7 @@ module _ {text : List ℕ} {from : ℕ} {p : Progress} {ls rs cs ns : List ℕ} 
         subst (λ (x : Progress). BodyRead text from x ls rs cs ns) (sym e) (record {
           contours = t .within .few;
           vertices = omega (arith, t .within .room);
-          declared = omega (arith, t .declared, t .within .room);
+          declared = λ (z : 22 ≤ 0). absurd (omega arith);
           same = λ s. g .same s ∙ no-lines (soFar s p ls rs cs ns) ∙ vertex-missing (p .line) (p .due) (soFar s p ls rs cs ns) d;
         })
 
@@ -348,6 +348,6 @@ module _ {text : List ℕ} {from : ℕ} {p : Progress} {ls rs cs ns : List ℕ} 
         record {
           contours = t .within .few;
           vertices = omega (arith, t .within .room);
-          declared = omega (arith, t .declared, t .within .room);
+          declared = λ z. omega (arith, t .declared);
           same = λ s. g .same s ∙ no-lines (soFar s p ls rs cs ns) ∙ all-read (p .line) p (soFar s p ls rs cs ns) (omega arith) (g .going);
         }

@@ -19,5 +19,3 @@ pub mod RowLoops
 pub mod Meshes
 -- the text for a reply of the build
 pub mod Replying
--- the lists that were read, lent as parts
-pub mod Parts

@@ -16,3 +16,5 @@ pub mod Answers
 pub mod Answering
 -- what is printed for a sheet, as far as it has been read
 pub mod Texts
+-- the lists that were read, lent as parts
+pub mod Parts

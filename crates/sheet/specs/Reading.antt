@@ -9,7 +9,8 @@ use lib.ListN.{length, take, drop, getD, set}
 use Rattle.mem.specs.Slice.{splice}
 use Rattle.rules.specs.Lines.{Line, linesOf, Numbers, numbers, malformed}
 use Rattle.rules.specs.Job.{jobStride, sumOver}
-use Rattle.rules.specs.Sheet.{contourName, vName, bytesMost, numberMost, codeMost, contoursMost, declaredMost, headingLines, Sheet, Read, taken, bad, lineAt, need, needUnit, cellNumbers, nvpNumbers, gridNumbers, noContours, readBody}
+use Rattle.rules.specs.Sheet.{contourName, vName, bytesMost, numberMost, codeMost, contoursMost, declaredMost, headingLines}
+use Rattle.rules.specs.Sheet.{Sheet, Read, taken, bad, lineAt, need, needUnit, cellNumbers, nvpNumbers, gridNumbers, noContours, readBody, readSheet}
 use Rattle.lines.specs.Read.{lineEnd, numbersAt}
 use Rattle.sheet.specs.declared.heading.Heading.{Heading}
 use Rattle.sheet.specs.declared.heading.HeadingRead.{HeadingRead}
@@ -17,6 +18,8 @@ use Rattle.sheet.specs.declared.heading.HeadingRead.the-variants.{Headed
 use Rattle.sheet.specs.declared.heading.UnitRead.{UnitRead}
 use Rattle.sheet.specs.declared.heading.UnitRead.the-variants.{Known, Missing}
 use Rattle.sheet.specs.declared.body.Progress.{Progress}
+use Rattle.sheet.specs.declared.read.SheetRead.{SheetRead}
+use Rattle.sheet.specs.declared.read.SheetRead.the-variants.{Taken, Bad}
 
 -- ---- the heading
 
@@ -220,6 +223,37 @@ pub record BodyReady (text : List ℕ) (from : ℕ) (ls rs cs ns : List ℕ) : T
 pub record BodyRead (text : List ℕ) (from : ℕ) (p : Progress) (ls rs cs ns : List ℕ) : Type 0 where
   pub contours : p .contours ≤ contoursMost
   pub vertices : p .vertices ≤ declaredMost
-  pub declared : sumOver (λ n. n) (take (p .contours) ls) ≤ declaredMost
+  pub declared : p .refusal ≤ 0 → sumOver (λ n. n) (take (p .contours) ls) ≡ p .vertices
   pub same : (s : Sheet) → readBody (headingLines + 1) 0 (linesOf (drop from text)) (withLists s [] [] [] [])
       ≡ endOf p (withLists s (take (p .contours) ls) (take (p .contours) rs) (take (p .contours) cs) (take (p .vertices * jobStride) ns))
+
+-- ---- the whole
+
+-- what the bytes come to: "23 over 65,536 bytes (line 0), before all"
+unfoldable pub readBytes : List ℕ → Read
+readBytes t = elim (ltb bytesMost (length t)) [
+  | true ↦ bad 23 0
+  | false ↦ readSheet (linesOf t)
+]
+
+-- there is room for 32 contours and 96 vertices
+pub record ListsReady (ls rs cs ns : List ℕ) : Type 0 where
+  pub lengths : length ls ≡ contoursMost
+  pub regions : length rs ≡ contoursMost
+  pub codes : length cs ≡ contoursMost
+  pub numbers : length ns ≡ declaredMost * jobStride
+
+-- the whole w was read as far as its end: behind the heading x, c contours and v vertices stand in the lists, and the contours have these vertices
+pub record TakenAs (w : Read) (x : Heading) (c v : ℕ) (ls rs cs ns : List ℕ) : Type 0 where
+  pub contours : c ≤ contoursMost
+  pub vertices : v ≤ declaredMost
+  pub declared : sumOver (λ n. n) (take c ls) ≡ v
+  pub same : w ≡ taken (withLists (sheetOf x) (take c ls) (take c rs) (take c cs) (take (v * jobStride) ns))
+
+-- what the whole w is found to be, and that in a record, which tells what it is of
+unfoldable pub FoundAs : Read → SheetRead → List ℕ → List ℕ → List ℕ → List ℕ → Type 0
+FoundAs w (Taken x c v) ls rs cs ns = TakenAs w x c v ls rs cs ns
+FoundAs w (Bad n k) ls rs cs ns = w ≡ bad n k
+
+pub record ReadAs (w : Read) (r : SheetRead) (ls rs cs ns : List ℕ) : Type 0 where
+  pub found : FoundAs w r ls rs cs ns

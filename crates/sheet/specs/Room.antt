@@ -4,14 +4,13 @@
 use mathlib.Core.Path.{_≡_, sym}
 use mathlib.Core.Bool.{Bool, true, false}
 use mathlib.Core.List.{List, [], _∷_, _++_}
-use Prim.Native.Nat.{ℕ, zero, suc, _+_, _-_, _*_, _≤_, _<_}
+use Prim.Native.Nat.{ℕ, _-_, _*_, _≤_, _<_}
 use native.Mathlib.Nat.{le-refl, le-trans}
 use native.Mathlib.Omega.{arith}
 use lib.ListN.{length, take, getD, length-append, List·getD-eq-default}
 use lib.Seq.{length-take-le}
 use mathlib.Core.Logic.{⊎-elim}
 use Rattle.mem.specs.Cases.{lt-or-le}
-use Rattle.mem.specs.Loops.{run, over}
 use Rattle.rules.specs.Lines.{ascii, cell, signedCell, numberLine}
 use Rattle.rules.specs.Weld.{noVertex}
 use Rattle.rules.specs.Mesh.{Polygon, polygonAt, noPolygon}
@@ -25,6 +24,7 @@ use Rattle.rules.specs.Sheet.{declaredMost, Sheet, refusedText, refusedName, un
 use Rattle.rules.specs.declared.Vertex.{Vertex}
 use Rattle.lines.specs.Print.{Printed}
 use Rattle.lines.specs.Printing.{printed-same-length, decimal-short, signed-short, line-short}
+use Rattle.lines.specs.Pieces.{textsFrom, texts-short}
 use Rattle.laws.specs.Lists.{All, all-at}
 use Rattle.laws.specs.Merge.{Good, Below}
 use Rattle.laws.specs.Build.{bounded}
@@ -53,7 +53,7 @@ pub refused-room : (number line : ℕ) → length (refusedText number line) ≤ 
 unfolding refusedText refusedName ascii
 refused-room number line = line-short refusedName (number ∷ line ∷ [])
 
-unit-short : (inches : Bool) → length (unitLine inches) ≤ 8
+pub unit-short : (inches : Bool) → length (unitLine inches) ≤ 8
 unfolding unitLine unitName mmName inName ascii
 unit-short true = le-refl 8
 unit-short false = le-refl 8
@@ -74,14 +74,8 @@ mesh-line-short m = rw (length-append, length-append, length-append, length-appe
 
 -- ---- the whole
 
-run-short : (f : ℕ → List ℕ) (b : ℕ) → ((k : ℕ) → length (f k) ≤ b) → (m i : ℕ) → length (run [] _++_ f i m) ≤ m * b
-unfolding run
-run-short f b h zero i = omega arith
-run-short f b h (suc m) i = rw length-append (omega (arith, h i, run-short f b h m (suc i)))
-
-over-short : (f : ℕ → List ℕ) (b n : ℕ) → ((k : ℕ) → length (f k) ≤ b) → length (over [] _++_ f 0 n) ≤ n * b
-unfolding over
-over-short f b n h = let z : n - 0 ≡ n = omega arith in rw z (run-short f b h n 0)
+over-short : (f : ℕ → List ℕ) (b n : ℕ) → ((k : ℕ) → length (f k) ≤ b) → length (textsFrom f 0 n) ≤ n * b
+over-short f b n h = let z : n - 0 ≡ n = omega arith in rw z at (texts-short f b 0 n (λ k i j. h k))
 
 vertices-short : (vs : List Vertex) → length (verticesText vs) ≤ length vs * 65
 unfolding verticesText

@@ -1,75 +1,109 @@
--- What is printed for a sheet, as far as it has been read. Assumes nothing.
--- Key: `long-text`, `bad-heading`, `good-heading`, `bad-body`, `good-body`: one for each way that the reading ends.
+-- What the bytes of a sheet come to, for each way that the reading ends; and what is printed for them by f, for any f. Assumes nothing.
+-- Key: `long-read`, `bad-heading`, `good-heading`, `bad-body`, `good-body`: the reading; `bad-as`, `taken-as`: its answer; `bad-text`,
+-- `taken-text`: what is printed.
 use mathlib.Core.Path.{_≡_, refl, sym, ap, subst, _∙_}
+use mathlib.Core.Bool.{Bool, true, false}
 use mathlib.Core.List.{List}
-use Prim.Native.Nat.{ℕ, _+_, _*_, _≤_, _<_}
+use Prim.Native.Nat.{ℕ, _*_, _≤_, _<_}
 use native.Mathlib.Omega.{arith}
 use borrow.Author.Tests.{lt-ltb, le-ltb, eq-eqb, ne-eqb}
-use lib.ListN.{length, take, drop}
+use lib.Dec.{ltb}
+use lib.ListN.{length, take}
 use Rattle.rules.specs.Lines.{linesOf}
 use Rattle.rules.specs.Job.{jobStride}
-use Rattle.rules.specs.Sheet.{bytesMost, headingLines, readBody, readSheet, refusedText, readText, textOf}
+use Rattle.rules.specs.Sheet.{bytesMost, Sheet, Read, bad, readSheet, refusedText, readText, textBy}
 use Rattle.lines.specs.Print.{Printed}
 use Rattle.lines.specs.Printing.{printed-as}
 use Rattle.sheet.specs.declared.heading.Heading.{Heading}
 use Rattle.sheet.specs.declared.heading.HeadingRead.{HeadingRead}
 use Rattle.sheet.specs.declared.heading.HeadingRead.the-variants.{Headed, Refused}
 use Rattle.sheet.specs.declared.body.Progress.{Progress}
-use Rattle.sheet.specs.Reading.{sheetOf, goesOn, Behind, withLists, endOf, BodyRead}
+use Rattle.sheet.specs.declared.read.SheetRead.{SheetRead}
+use Rattle.sheet.specs.declared.read.SheetRead.the-variants.{Taken, Bad}
+use Rattle.sheet.specs.Reading.{sheetOf, goesOn, Behind, withLists, endOf, BodyReady, BodyRead, readBytes, ListsReady, TakenAs, FoundAs, ReadAs}
 use Rattle.sheet.specs.Room.{outMost, printed-short, printed-counts}
-use Rattle.sheet.specs.Answering.{jobText}
 
--- what is printed for the lines behind a heading
-unfoldable pub bodyText : List ℕ → Heading → List ℕ
-bodyText t x = readText (readBody (headingLines + 1) 0 (linesOf (drop (x .at) t)) (sheetOf x))
+-- ---- the bytes
 
--- the heading's end is within the text, and there is room for what is printed
-pub record HeadedReady (t : List ℕ) (x : Heading) (out : List ℕ) : Type 0 where
-  pub inside : x .at ≤ length t
-  pub short : length t ≤ bytesMost
-  pub room : outMost ≤ length out
+long-bytes : (t : List ℕ) → bytesMost < length t → readBytes t ≡ bad 23 0
+unfolding readBytes
+long-bytes t h = rw (lt-ltb bytesMost (length t) h, readBytes) refl
 
--- ---- the sheet
+short-bytes : (t : List ℕ) → length t ≤ bytesMost → readBytes t ≡ readSheet (linesOf t)
+unfolding readBytes
+short-bytes t h = rw (le-ltb bytesMost (length t) h, readBytes) refl
 
-pub long-text : (t : List ℕ) → bytesMost < length t → textOf t ≡ refusedText 23 0
-unfolding textOf
-long-text t h = rw (lt-ltb bytesMost (length t) h, textOf) refl
+-- ---- what is read
 
-short-text : (t : List ℕ) → length t ≤ bytesMost → textOf t ≡ readText (readSheet (linesOf t))
-unfolding textOf
-short-text t h = rw (le-ltb bytesMost (length t) h, textOf) refl
+module _ (t ls rs cs ns : List ℕ) where
+  pub long-read : bytesMost < length t → ReadAs (readBytes t) (Bad 23 0) ls rs cs ns
+  unfolding FoundAs
+  long-read h = record { found = long-bytes t h }
 
-module _ (t : List ℕ) (h : length t ≤ bytesMost) (r : HeadingRead) (e : readSheet (linesOf t) ≡ goesOn t r) where
-  pub bad-heading : (n k : ℕ) → r ≡ Refused n k → textOf t ≡ refusedText n k
-  unfolding goesOn readText
-  bad-heading n k q = short-text t h ∙ ap readText (e ∙ ap (goesOn t) q)
+  module _ (h : length t ≤ bytesMost) (r : HeadingRead) (e : readSheet (linesOf t) ≡ goesOn t r) where
+    pub bad-heading : (n k : ℕ) → r ≡ Refused n k → ReadAs (readBytes t) (Bad n k) ls rs cs ns
+    unfolding FoundAs goesOn
+    bad-heading n k q = record { found = short-bytes t h ∙ e ∙ ap (goesOn t) q }
 
-  pub good-heading : (x : Heading) → r ≡ Headed x → textOf t ≡ bodyText t x
-  unfolding goesOn bodyText
-  good-heading x q = short-text t h ∙ ap readText (e ∙ ap (goesOn t) q)
+    pub good-heading : (x : Heading) (a : SheetRead) → r ≡ Headed x → ReadAs (goesOn t (Headed x)) a ls rs cs ns → ReadAs (readBytes t) a ls rs cs ns
+    good-heading x a q b = let z = short-bytes t h ∙ e ∙ ap (goesOn t) q in rw z b
 
--- ---- its body
+  -- the lines behind a heading
+  module _ (x : Heading) (p : Progress) (b : BodyRead t (x .at) p ls rs cs ns) where
+    whole : goesOn t (Headed x)
+        ≡ endOf p (withLists (sheetOf x) (take (p .contours) ls) (take (p .contours) rs) (take (p .contours) cs) (take (p .vertices * jobStride) ns))
+    unfolding goesOn withLists sheetOf
+    whole = b .same (sheetOf x)
 
-module _ (t : List ℕ) (x : Heading) (p : Progress) (ls rs cs ns : List ℕ) (b : BodyRead t (x .at) p ls rs cs ns) where
-  whole : bodyText t x ≡ readText (endOf p (withLists (sheetOf x) (take (p .contours) ls) (take (p .contours) rs) (take (p .contours) cs) (take (p .vertices * jobStride) ns)))
-  unfolding bodyText withLists sheetOf
-  whole = ap readText (b .same (sheetOf x))
+    pub bad-body : 0 < p .refusal → ReadAs (goesOn t (Headed x)) (Bad (p .refusal) (p .line)) ls rs cs ns
+    unfolding FoundAs endOf
+    bad-body h = record { found = whole ∙ rw (ne-eqb (p .refusal) 0 (λ e. absurd (omega arith))) refl }
 
-  pub bad-body : 0 < p .refusal → bodyText t x ≡ refusedText (p .refusal) (p .line)
-  unfolding endOf readText
-  bad-body h = whole ∙ rw (ne-eqb (p .refusal) 0 (λ e. absurd (omega arith))) refl
+    pub good-body : p .refusal ≤ 0 → ReadAs (goesOn t (Headed x)) (Taken x (p .contours) (p .vertices)) ls rs cs ns
+    unfolding FoundAs endOf
+    good-body h =
+        let e : p .refusal ≡ 0 = omega arith in
+        let t : TakenAs (goesOn t (Headed x)) x (p .contours) (p .vertices) ls rs cs ns =
+        record { contours = b .contours; vertices = b .vertices; declared = b .declared h; same = whole ∙ rw (eq-eqb (p .refusal) 0 e) refl } in
+        record { found = t }
 
-  pub good-body : p .refusal ≤ 0 → bodyText t x ≡ jobText x (take (p .contours) ls) (take (p .contours) rs) (take (p .contours) cs) (take (p .vertices * jobStride) ns)
-  unfolding endOf readText jobText
-  good-body h = let e : p .refusal ≡ 0 = omega arith in whole ∙ rw (eq-eqb (p .refusal) 0 e) refl
-
--- ---- for the function that users call
-
-pub headed-ready : {out : List ℕ} (t : List ℕ) (r : HeadingRead) (x : Heading) → r ≡ Headed x → Behind t r → length t ≤ bytesMost → length out ≡ outMost → HeadedReady t x out
+pub body-ready : {ls rs cs ns : List ℕ} (t : List ℕ) (r : HeadingRead) (x : Heading) → r ≡ Headed x → Behind t r → length t ≤ bytesMost → ListsReady ls rs cs ns
+    → BodyReady t (x .at) ls rs cs ns
 unfolding Behind
-headed-ready {out} t r x e b h l =
+body-ready t r x e b h l =
     let k : x .at ≤ length t = subst (Behind t) e b in
-    record { inside = k; short = h; room = omega arith }
+    record { inside = k; short = h; lengths = l .lengths; regions = l .regions; codes = l .codes; numbers = l .numbers }
+
+-- ---- what is printed, by f
+
+text-read : (f : Sheet → List ℕ) (t : List ℕ) → textBy f t ≡ readText f (readBytes t)
+unfolding textBy readBytes readText
+text-read f t = elim (ltb bytesMost (length t)) as (λ (b : Bool). elim b [ true ↦ refusedText 23 0 | false ↦ readText f (readSheet (linesOf t)) ]
+    ≡ readText f (elim b [ true ↦ bad 23 0 | false ↦ readSheet (linesOf t) ])) [
+      | true ↦ refl
+      | false ↦ refl
+    ]
+
+module _ {w : Read} {r : SheetRead} {ls rs cs ns : List ℕ} (a : ReadAs w r ls rs cs ns) where
+  pub bad-as : {n k : ℕ} → r ≡ Bad n k → w ≡ bad n k
+  unfolding FoundAs
+  bad-as e = subst (λ (q : SheetRead). FoundAs w q ls rs cs ns) e (a .found)
+
+  pub taken-as : {x : Heading} {c v : ℕ} → r ≡ Taken x c v → TakenAs w x c v ls rs cs ns
+  unfolding FoundAs
+  taken-as e = subst (λ (q : SheetRead). FoundAs w q ls rs cs ns) e (a .found)
+
+module _ (f : Sheet → List ℕ) (t : List ℕ) where
+  pub bad-text : {n k : ℕ} → readBytes t ≡ bad n k → textBy f t ≡ refusedText n k
+  unfolding readText
+  bad-text e = text-read f t ∙ ap (readText f) e
+
+  pub taken-text : {x : Heading} {c v : ℕ} {ls rs cs ns : List ℕ} → TakenAs (readBytes t) x c v ls rs cs ns
+      → textBy f t ≡ f (withLists (sheetOf x) (take c ls) (take c rs) (take c cs) (take (v * jobStride) ns))
+  unfolding readText
+  taken-text a = text-read f t ∙ ap (readText f) (a .same)
+
+-- ---- for the functions that users call
 
 -- a refusal is the answer
 pub whole-answer : {piece text v w : List ℕ} {r : ℕ} → length v ≡ outMost → length piece ≤ 50 → Printed piece v w 0 r → text ≡ piece

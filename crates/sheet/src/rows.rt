@@ -12,7 +12,7 @@ use lines::cells::put_signed_cell;
 use lines::print::put_text;
 
 // A line of a name and of numbers of 16 bits.
-fn put_line16(out: &mut [u8], at: usize, name: &[u8], ns: &[u16]) -> usize
+pub fn put_line16(out: &mut [u8], at: usize, name: &[u8], ns: &[u16]) -> usize
     requires { ⌜ Room (now out) (numberLine (now name) (now ns)) at ⌝ }
     ensures { λ r. ⌜ Printed (numberLine (now (name .entry)) (now (ns .entry))) (now (out .entry)) (now (out .exit)) at r ⌝ }
 {
@@ -23,7 +23,7 @@ fn put_line16(out: &mut [u8], at: usize, name: &[u8], ns: &[u16]) -> usize
 }
 
 // A line of a name and of numbers of 32 bits.
-fn put_line32(out: &mut [u8], at: usize, name: &[u8], ns: &[u32]) -> usize
+pub fn put_line32(out: &mut [u8], at: usize, name: &[u8], ns: &[u32]) -> usize
     requires { ⌜ Room (now out) (numberLine (now name) (now ns)) at ⌝ }
     ensures { λ r. ⌜ Printed (numberLine (now (name .entry)) (now (ns .entry))) (now (out .entry)) (now (out .exit)) at r ⌝ }
 {
