@@ -13,7 +13,7 @@ use lib.Dec.{eqb, leb, ltb}
 use borrow.Author.Tests.{eqb-true, eqb-false, leb-true, ltb-true, ltb-false, le-leb, eq-eqb}
 use Rattle.mem.specs.Cases.{lt-or-le}
 use lib.ListN.{length, take, drop, getD, set, length-append, drop-of-length-le}
-use lib.Seq.{take-suc, drop-cons, take-all, take-take, take-set-le, split-at}
+use lib.Seq.{take-suc, drop-cons, take-all, take-take, take-set-le}
 use lib.IntN.{ℤ, pos, _+ℤ_, +ℤ-idr}
 use Rattle.ints.specs.Bools.{and-left, and-right}
 use Rattle.mem.specs.Loops.{over, run, times}
@@ -22,9 +22,9 @@ use Rattle.rules.specs.declared.Side.{Side}
 use Rattle.rules.specs.Plane.{D, area}
 use Rattle.rules.specs.Lists.{prev, swapRemove, count}
 use Rattle.rules.specs.Mesh.{Polygon, noPolygon, polygonAt, sideStart, sideEnd}
-use Rattle.rules.specs.Removal.{holds, untouchedSide, sideInto, untouched, TakingOut, takeOne, takenOut, heldOnce, otherEnd, neighboursIn, neighbours}
+use Rattle.rules.specs.Removal.{holds, untouchedSide, sideInto, untouched, TakingOut, takeOne, takenOut, heldOnce, otherEnd, neighboursIn}
 use Rattle.rules.specs.Areas.{sumOf}
-use Rattle.laws.specs.Lists.{All, none, more, all-append, all-at, all-of, sum-append, gather, map-append, swap-perm, swap-length}
+use Rattle.laws.specs.Lists.{All, none, more, all-append, all-at, all-of, sum-append, gather, map-append, last-split, swap-perm, swap-length}
 use Rattle.laws.specs.Ring.{next-in, next-out}
 use Rattle.laws.specs.Sides.{path, path-map, D-start, D-end}
 use Rattle.laws.specs.Outlines.{area-round}
@@ -69,12 +69,9 @@ module _ (rem : ℕ) (g : ℕ → ℕ → ℤ) (from : (b : ℕ) → g rem b ≡
 unfoldable pub seen : Point → (ℕ → Point) → ℕ → ℕ → ℤ
 seen v pl a b = D v (pl a) (pl b)
 
-last-split : (cs : List ℕ) → 0 < length cs → cs ≡ take (length cs - 1) cs ++ (getD cs (length cs - 1) 0 ∷ [])
-last-split cs h = split-at cs (length cs - 1) 0 (omega arith) ∙ ap (λ (s : List ℕ). take (length cs - 1) cs ++ (getD cs (length cs - 1) 0 ∷ s)) (drop-of-length-le cs {i = suc (length cs - 1)} (omega arith))
-
 area-path-on : (pl : ℕ → Point) (rem : ℕ) (cs : List ℕ) → 0 < length cs → path (seen (pl rem) pl) (getD cs (length cs - 1) 0) cs ≡ area (map pl cs)
 unfolding seen
-area-path-on pl rem cs h = go (take (length cs - 1) cs) (getD cs (length cs - 1) 0) (last-split cs h)
+area-path-on pl rem cs h = go (take (length cs - 1) cs) (getD cs (length cs - 1) 0) (last-split cs 0 h)
   where
     go : (l : List ℕ) (q : ℕ) → cs ≡ l ++ (q ∷ []) → path (λ a b. D (pl rem) (pl a) (pl b)) q cs ≡ area (map pl cs)
     go l q e = rw (e, map-append pl l (q ∷ [])) (sym (path-map (D (pl rem)) pl q (l ++ (q ∷ []))) ∙ ap (path (D (pl rem)) (pl q)) (map-append pl l (q ∷ [])) ∙ sym (area-round (pl rem) (map pl l) (pl q)))

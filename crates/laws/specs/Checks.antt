@@ -17,10 +17,10 @@ use Rattle.rules.specs.declared.Found.{Found}
 use Rattle.rules.specs.declared.Found.the-variants.{At, Nothing}
 use Rattle.rules.specs.declared.Refusal.{Refusal}
 use Rattle.rules.specs.declared.Refusal.the-variants.{BadCornerLimit, CountsDisagree, HighCoordinate, BadFlag, TooManyVertices, ShortBuffer}
-use Rattle.rules.specs.Lists.{when, orElse}
 use Rattle.rules.specs.Plane.{onPlane, InGrid}
 use Rattle.rules.specs.Job.{Job, jobStride, vertexAt, flagAt, sumOver, countAll, countV, countT}
 use Rattle.rules.specs.Checks.{Checked, passed, refusal, orNext, refuseIf, refuseAt, checkNvp, countsAgree, checkCounts, isHigh, firstHigh, firstBadFlag, checkV, leastLengths, firstShort, check}
+use Rattle.laws.specs.Lowest.{first-none}
 
 -- ---- a check that passes
 or-first : (a b : Checked) → orNext a b ≡ passed → a ≡ passed
@@ -42,23 +42,6 @@ not-found : (r : ℕ → Refusal) (f : Found) → refuseAt r f ≡ passed → f 
 unfolding refuseAt
 not-found r (At k) e = let z : _≡_ {A = ℕ} 0 1 = cc in absurd (omega arith)
 not-found r Nothing e = refl
-
--- a search that finds nothing
-none-here : (b : Bool) (k : ℕ) (r : Found) → orElse (when b k) r ≡ Nothing → (b ≡ false) × (r ≡ Nothing)
-unfolding orElse when
-none-here true k r e = let z : _≡_ {A = ℕ} 0 1 = cc in absurd (omega arith)
-none-here false k r e = (refl, e)
-
-run-none : (test : ℕ → Bool) (m i : ℕ) → run Nothing orElse (λ k. when (test k) k) i m ≡ Nothing → (k : ℕ) → i ≤ k → k < i + m → test k ≡ false
-unfolding run
-run-none test zero i e k h l = absurd (omega arith)
-run-none test (suc m) i e k h l =
-    let n = none-here (test i) i (run Nothing orElse (λ k. when (test k) k) (suc i) m) e in
-    ⊎-elim (λ (a : i < k). run-none test m (suc i) (n .1) k a (omega arith)) (λ (a : k ≤ i). let q : k ≡ i = omega arith in rw q (n .0)) (lt-or-le i k)
-
-pub first-none : (test : ℕ → Bool) (n : ℕ) → over Nothing orElse (λ k. when (test k) k) 0 n ≡ Nothing → (k : ℕ) → k < n → test k ≡ false
-unfolding over
-first-none test n e k h = run-none test (n - 0) 0 e k (omega arith) (omega arith)
 
 not-high : (v : Vertex) → isHigh v ≡ false → InGrid (onPlane v)
 unfolding isHigh

@@ -16,7 +16,7 @@ use Rattle.mem.specs.Loops.{over, over-turn, over-end}
 use Rattle.mem.specs.Tab.{length-tab, getD-tab}
 use Rattle.rules.specs.declared.Point.{Point}
 use Rattle.rules.specs.declared.Vertex.{Vertex}
-use Rattle.rules.specs.Plane.{area, origin, onPlane, fan, InGrid}
+use Rattle.rules.specs.Plane.{area, origin, onPlane, InGrid}
 use Rattle.rules.specs.Ears.{Ears, done, stuck, triangulate}
 use Rattle.rules.specs.Weld.{noVertex, Welded, weldAll}
 use Rattle.rules.specs.Mesh.{Polygon, Mesh, placeOf}
@@ -26,6 +26,7 @@ use Rattle.rules.specs.Build.{weldHeight, contourTriangle, addContour, added, n
 use Rattle.rules.specs.Areas.{pointsOf, polygonArea, meshArea, contourAreas}
 use Rattle.laws.specs.Measures.{areaOf, spareOf, sparesIn}
 use Rattle.laws.specs.Lists.{All, none, more, all-append, all-imp, all-map, map-same, getD-map-in, sum-append, sum-same, sum-map, total-append}
+use Rattle.laws.specs.Sides.{area-few}
 use Rattle.laws.specs.Ears.{Triangle, triangle, cutArea, triangulated, triangles-counted, triangles-three}
 use Rattle.laws.specs.Weld.{OneOf, Welds, welded}
 use Rattle.laws.specs.Merge.{Good, Below, Corners, merged, triangles-merged}
@@ -130,13 +131,6 @@ contour-added height nvp region code vs flags ts m three sound low high grid e =
     }
 
 -- ---- all contours
-area-few : (l : List Point) → length l < 3 → area l ≡ pos 0
-unfolding area fan
-area-few [] h = refl
-area-few (p ∷ []) h = refl
-area-few (p ∷ (q ∷ [])) h = refl
-area-few (p ∷ (q ∷ (r ∷ l))) h = absurd (omega arith)
-
 pub length-contour : (ns : List ℕ) (first n : ℕ) → length (contourVertices ns first n) ≡ n
 unfolding contourVertices
 length-contour ns first n = length-tab _ n

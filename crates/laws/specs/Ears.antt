@@ -20,7 +20,7 @@ use Rattle.rules.specs.Plane.{area, origin}
 use Rattle.rules.specs.Lists.{next, without}
 use Rattle.rules.specs.Areas.{sumOf}
 use Rattle.rules.specs.Ears.{indexOf, withMark, indices, remark, markFrom, markAll, isCuttable, keyFrom, noEar, better, tryEar, leastEar, findEar, triangleAt, remarkGap, cutEar, done, stuck, cutAll, triangulate}
-use Rattle.laws.specs.Lists.{All, none, more, all-append, all-at, all-of, all-without, sum-append, map-append, map-without, length-without, getD-map-in}
+use Rattle.laws.specs.Lists.{All, none, more, all-append, all-at, all-of, all-without, sum-append, map-tab, map-without, length-without, getD-map-in}
 use Rattle.laws.specs.Sides.{area-triangle}
 use Rattle.laws.specs.Ring.{next-below, area-without}
 
@@ -49,14 +49,9 @@ pub cut-index : (ps : List Point) (i : ℕ) (ws : List ℕ) → map indexOf (cut
 unfolding cutEar remarkGap
 cut-index ps i ws = remark-index ps _ _ _ _ ∙ remark-index ps _ _ _ _ ∙ map-without indexOf ws (next i (length ws))
 
-map-tab : {B : Type 0} (f : ℕ → B) (n : ℕ) → map f (tab (λ k. k) n) ≡ tab f n
-unfolding tab
-map-tab f zero = refl
-map-tab f (suc n) = map-append f (tab (λ k. k) n) (n ∷ []) ∙ ap (λ l. l ++ (f n ∷ [])) (map-tab f n)
-
 pub start-index : (ps : List Point) (n : ℕ) → n ≤ 2 ^ 28 → map indexOf (markAll ps (indices n)) ≡ indices n
 unfolding indices
-start-index ps n h = mark-index ps (tab (λ k. k) n) ∙ map-tab indexOf n ∙ tab-cong indexOf (λ k. k) n (λ i k. index-small i (omega arith))
+start-index ps n h = mark-index ps (tab (λ k. k) n) ∙ map-tab indexOf (λ k. k) n ∙ tab-cong indexOf (λ k. k) n (λ i k. index-small i (omega arith))
 
 pub length-indices : (n : ℕ) → length (indices n) ≡ n
 unfolding indices
@@ -147,7 +142,7 @@ length-cut ps i ws h =
 
 points-all : (ps : List Point) → pointsAt ps (indices (length ps)) ≡ ps
 unfolding pointsAt indices
-points-all ps = map-tab (λ k. getD ps k origin) (length ps) ∙ tab-take ps (length ps) origin (omega arith) ∙ take-all (length ps) ps (omega arith)
+points-all ps = map-tab (λ k. getD ps k origin) (λ k. k) (length ps) ∙ tab-take ps (length ps) origin (omega arith) ∙ take-all (length ps) ps (omega arith)
 
 -- ---- all cuts
 pub record Cuts (ps : List Point) (ws : List ℕ) (out : List (List ℕ)) (ts : List (List ℕ)) : Type 0 where

@@ -1,8 +1,9 @@
 -- What is proved of the rules. Each file opens with what it shows; the statements are those of crate `rules`.
 --
--- lists, sides and rings, and what is measured
+-- lists, searches, sides and rings, and what is measured
 pub mod Lists
 pub mod Searches
+pub mod Lowest
 pub mod Sides
 pub mod Ring
 pub mod Measures
@@ -31,6 +32,24 @@ pub mod Rows
 -- R1's tests, made quicker: rings of few sides, numbers aside of others
 pub mod Diagonals
 pub mod Aside
+-- request 12, the mender: what a loss leaves on the plane; what mending keeps, and that it ends; flags, parts, and the job that is called with
+pub mod MendLoss
+pub mod Mend
+pub mod MendFlags
+pub mod MendParts
+pub mod MendJob
+-- the mender, made quicker: a walk with a stack and then the two ends; and the same by the points' numbers, as the code has it
+pub mod MendQuick
+pub mod MendClean
+pub mod MendSame
+pub mod MendNumbers
+pub mod MendPass
+pub mod MendWalk
+pub mod MendEnds
+pub mod MendEnded
+pub mod MendDry
+pub mod MendWithin
+pub mod MendWalked
 -- the statements of `rules`: Areas, Fuel, Widths, Exits, Sentences, Distance, Boxes, Outlines
 pub mod Laws
 pub mod Fuel

@@ -1,16 +1,18 @@
--- Lists: what holds of all elements; maps; sums; and what `set`, `swapRemove` and `without` do, as permutations and by length. Assumes nothing.
+-- Lists: what holds of all elements; maps; sums; and what `set`, `swapRemove` and `without` do, as permutations, by length and by count. Assumes nothing.
 use mathlib.Core.Path.{_≡_, refl, sym, ap, ap₂, _∙_, subst}
 use mathlib.Core.List.{List, [], _∷_, _++_, map, append-nil, append-assoc, List·Permᴰ, List·Permᴰ·nil, List·Permᴰ·cons, List·Permᴰ·swap, List·Permᴰ·trans, Permᴰ·refl, Permᴰ·middle}
 use mathlib.Core.Logic.{⊎-elim}
 use Prim.Native.Nat.{ℕ, zero, suc, _+_, _-_, _≤_, _<_}
 use native.Mathlib.Omega.{arith}
+use native.Mathlib.Numerals.{add-one}
 use lib.ListN.{length, take, drop, getD, set, length-append, length-take, length-drop, length-set, List·getD-append}
-use lib.Seq.{take-suc, take-all, take-at, set-append-left, set-at, getD-at, getD-take, getD-drop, getD-append-add, length-take-le}
+use lib.Seq.{split-at, take-suc, take-all, take-at, set-append-left, set-at, getD-at, getD-take, getD-drop, getD-append-add, length-take-le}
 use lib.IntN.{ℤ, _+ℤ_, +ℤ-idl, +ℤ-assoc}
 use Rattle.ints.specs.Ring.{at, _⊕_, is-eq}
 use Rattle.mem.specs.Cases.{lt-or-le}
+use Rattle.mem.specs.Tab.{tab}
 use Rattle.mem.specs.Packed.{Every, every-at, every-set, every-take}
-use Rattle.rules.specs.Lists.{down, swapRemove, without}
+use Rattle.rules.specs.Lists.{down, swapRemove, without, count}
 use Rattle.rules.specs.Areas.{sumOf}
 
 -- ---- what holds of all elements
@@ -112,6 +114,11 @@ module _ {A B : Type 0} where
   map-drop f zero l = refl
   map-drop f (suc n) [] = refl
   map-drop f (suc n) (a ∷ l) = map-drop f n l
+
+  pub map-tab : (g : A → B) (f : ℕ → A) (n : ℕ) → map g (tab f n) ≡ tab (λ k. g (f k)) n
+  unfolding tab
+  map-tab g f zero = refl
+  map-tab g f (suc n) = map-append g (tab f n) (f n ∷ []) ∙ ap (λ (l : List B). l ++ (g (f n) ∷ [])) (map-tab g f n)
 
   pub getD-map-in : (f : A → B) (l : List A) (i : ℕ) (d : A) (e : B) → i < length l → getD (map f l) i e ≡ f (getD l i d)
   getD-map-in f [] i d e h = absurd (omega arith)
@@ -215,16 +222,17 @@ module _ {A : Type 0} where
       rw (getD-at m x [] d i e, set-at m x [] x i e, take-at m (x ∷ []) (length m) refl) (snoc-perm m x))
       (lt-or-le i (length m))
 
+  -- all but the last, and the last
+  pub last-split : (l : List A) (d : A) → 1 ≤ length l → l ≡ take (length l - 1) l ++ (getD l (length l - 1) d ∷ [])
+  last-split l d h = let e : suc (length l - 1) ≡ length l = omega arith in
+      sym (take-all (length l) l (omega arith)) ∙ ap (λ (n : ℕ). take n l) (sym e) ∙ take-suc l (length l - 1) d (omega arith)
+
   pub swap-perm : (d : A) (l : List A) (i : ℕ) → i < length l → List·Permᴰ l (getD l i d ∷ swapRemove d l i)
   unfolding swapRemove
-  swap-perm d l i h = go (take (length l - 1) l) (getD l (length l - 1) d) split (len (length l) h)
+  swap-perm d l i h = go (take (length l - 1) l) (getD l (length l - 1) d) (last-split l d (omega arith)) (len (length l) h)
     where
       len : (n : ℕ) → i < n → length (take (length l - 1) l) ≡ length l - 1
       len n h = rw length-take (omega arith)
-
-      split : l ≡ take (length l - 1) l ++ (getD l (length l - 1) d ∷ [])
-      split = let e : suc (length l - 1) ≡ length l = omega arith in
-          sym (take-all (length l) l (omega arith)) ∙ ap (λ (n : ℕ). take n l) (sym e) ∙ take-suc l (length l - 1) d (omega arith)
 
       go : (m : List A) (x : A) → l ≡ m ++ (x ∷ []) → length m ≡ length l - 1 → List·Permᴰ l (getD l i d ∷ take (length l - 1) (set l i x))
       go m x e k = rw (← k, e) (swap-snoc m x i d (omega arith))
@@ -248,6 +256,16 @@ module _ {A : Type 0} where
       ∙ getD-append-add (take i l) (drop (i + 1) l) (j - i) d ∙ getD-drop (i + 1) l (j - i) d
       ∙ ap (λ (k : ℕ). getD l k d) (omega arith)
 
+  pub without-cons : (x : A) (l : List A) (i : ℕ) → without (x ∷ l) (suc i) ≡ x ∷ without l i
+  unfolding without
+  without-cons x l i = let e : suc i + 1 ≡ suc (i + 1) = omega arith in rw e refl
+
+  pub without-seam : (p : List A) (x : A) (q : List A) (n : ℕ) → length p ≡ n → without (p ++ (x ∷ q)) n ≡ p ++ q
+  unfolding without
+  without-seam [] x q n e = rw (← e) refl
+  without-seam (a ∷ p) x q zero e = absurd (omega arith)
+  without-seam (a ∷ p) x q (suc n) e = without-cons a (p ++ (x ∷ q)) n ∙ ap (λ (r : List A). a ∷ r) (without-seam p x q n (omega arith))
+
   pub length-without : (l : List A) (i : ℕ) → i < length l → length (without l i) ≡ length l - 1
   unfolding without
   length-without l i h = simp (length-append, length-take, length-drop) (omega arith)
@@ -259,3 +277,16 @@ all-without l i h = all-append (all-take i h) (all-drop (i + 1) h)
 pub map-without : {A B : Type 0} (f : A → B) (l : List A) (i : ℕ) → map f (without l i) ≡ without (map f l) i
 unfolding without
 map-without f l i = map-append f (take i l) (drop (i + 1) l) ∙ ap₂ _++_ (map-take f i l) (map-drop f (i + 1) l)
+
+-- ---- how often a number stands in a list
+pub count-append : (k : ℕ) (l m : List ℕ) → count k (l ++ m) ≡ count k l + count k m
+unfolding count
+count-append k [] m = omega arith
+count-append k (x ∷ l) m = omega (arith, count-append k l m)
+
+pub count-without : (k : ℕ) (l : List ℕ) (i d : ℕ) → i < length l → count k (without l i) + count k (getD l i d ∷ []) ≡ count k l
+unfolding count without
+count-without k l i d h =
+    let whole = ap (count k) (split-at l i d h) ∙ count-append k (take i l) (getD l i d ∷ drop (suc i) l) in
+    let rest = count-append k (take i l) (drop (suc i) l) in
+    rw (add-one i) (omega arith)

@@ -30,6 +30,9 @@ next-out i n h = rw (le-ltb (i + 1) n h)
 pub next-below : (i n : ℕ) → 0 < n → next i n < n
 next-below i n h = ⊎-elim (λ (k : i + 1 < n). rw (next-in i n k) k) (λ (k : n ≤ i + 1). rw (next-out i n k) h) (lt-or-le (i + 1) n)
 
+pub next-other : (i n : ℕ) → 2 ≤ n → next i n ≢ i
+next-other i n h e = ⊎-elim (λ (k : i + 1 < n). omega (arith, next-in i n k)) (λ (k : n ≤ i + 1). omega (arith, next-out i n k)) (lt-or-le (i + 1) n)
+
 -- ---- places as remainders
 pub mod-once : (x n : ℕ) → n ≤ x → x < n + n → x % n ≡ x - n
 mod-once x n h k = mod-eq-sub-mod h ∙ mod-eq-of-lt (omega arith)

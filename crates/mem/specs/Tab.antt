@@ -28,7 +28,7 @@ module _ {A : Type 0} where
   length-tab f zero = refl
   length-tab f (suc n) = simp (length-append, length-tab f n, add-one)
 
-  tab-cons : (f : ℕ → A) (n : ℕ) → tab f (suc n) ≡ f 0 ∷ tab (λ i. f (i + 1)) n
+  pub tab-cons : (f : ℕ → A) (n : ℕ) → tab f (suc n) ≡ f 0 ∷ tab (λ i. f (i + 1)) n
   unfolding tab
   tab-cons f zero = refl
   tab-cons f (suc n) = ap (λ (l : List A). l ++ (f (suc n) ∷ [])) (tab-cons f n) ∙ rw (add-one n)

@@ -26,12 +26,16 @@ pub mod Replies
 pub mod Checks
 pub mod Build
 pub mod Exits
+-- request 12: contours are mended, as the build may be asked to have them
+pub mod Mend
+pub mod MendCall
 -- the header's unit, and the distance
 pub mod Units
 pub mod Distance
 -- the job sheet: text in lines and cells, and what is printed for what is read
 pub mod Lines
 pub mod Sheet
+pub mod MendSheet
 -- what is proved of the rules: demand 3, that loops go to their end, that what is written fits, and that each text is its sentence
 pub mod Areas
 pub mod Fuel
@@ -43,3 +47,4 @@ pub mod Outlines
 -- K1 to K12, and one name that opens all definitions so that examples compute
 pub mod Computing
 pub mod Examples
+pub mod Mendings

@@ -130,3 +130,12 @@ pub enum Decimal {
     Value(u64),
     Malformed,
 }
+
+// What a mending answers: how many points were lost and how many are kept; or one of 80, 2, 82 and 81.
+pub enum MendReply {
+    Mended(u64, u64),
+    NotWhole,
+    LengthsDisagree,
+    ShortScratch,
+    ListFull,
+}
