@@ -12,7 +12,7 @@ ghost use Rattle.checks.specs.Answers.{jobOf};
 pub const JOB_STRIDE: usize = 4;
 
 // "over 65,535 contours": more than so many are refused.
-const MOST_CONTOURS: usize = 65535;
+pub const MOST_CONTOURS: usize = 65535;
 
 // Which sum over the contours is meant: all vertices, V or T.
 enum Part {

@@ -15,3 +15,15 @@ pub fn fill(work: &mut [u32], at: usize, n: usize, x: u32)
         i += 1;
     }
 }
+
+// The same of numbers of 16 bits.
+pub fn fill16(numbers: &mut [u16], at: usize, n: usize, x: u16)
+    requires { ⌜ at + n ≤ length (now numbers) ⌝ }
+    ensures { λ _. ⌜ now (numbers .exit) ≡ splice (now (numbers .entry)) at (replicate n x) ⌝ }
+{
+    let mut i = 0;
+    while i < n {
+        numbers[at + i] = x;
+        i += 1;
+    }
+}
