@@ -1,8 +1,8 @@
 /* Mittencrest: contours in, a polygon mesh out.
  *
  * The functions below are proved: for any numbers at all the build ends with the mesh that document 01's rules give, or with the
- * first refusal that applies, and a refusal writes to no output buffer. What they do is said in crates/rules; what is promised of
- * each, in docs/PROMISES.md.
+ * first refusal that applies, and a refusal writes to no output buffer; the mender likewise. What they do is said in crates/rules;
+ * what is promised of each, in docs/PROMISES.md.
  *
  * `rt staticlib capi` writes target/staticlib/libcapi.a, for x86-64. A slice is a pointer and its count of elements. The pointer of
  * an empty one may be null. Slices must not overlap, but for the four that are only read.
@@ -96,6 +96,56 @@ uint32_t mittencrest_build_v1(float header[9], bool inches,
                               uint16_t *flags, size_t flags_count,
                               uint32_t *work, size_t work_count,
                               uint64_t answer[4]);
+
+/* Places in the mender's `answer`. */
+enum {
+    /* MITTENCREST_REPLY, MITTENCREST_SECOND and MITTENCREST_THIRD, as above */
+    MITTENCREST_MENDED_LENGTH = 3
+};
+
+/* The mender's replies. They are checked in this order: 80, 2, 82, 81. A refusal's second and third number are 0. */
+enum {
+    MITTENCREST_MENDED = 0,             /* second number: how many points were lost; third number: how many are kept */
+    MITTENCREST_NOT_WHOLE = 80,         /* the numbers are not whole vertices */
+    MITTENCREST_LENGTHS_DISAGREE = 2,   /* of a job: the lengths are not those of the vertices, or there are over 65,535 contours */
+    MITTENCREST_SHORT_SCRATCH = 82,     /* `work` has fewer words than the longest contour has vertices, or there are over 4,294,967,295 vertices */
+    MITTENCREST_LIST_FULL = 81          /* more points are lost than `lost` has room for */
+};
+
+/* Mends one traced contour in place, before a build, only when asked: doubled points and spikes are taken out of it.
+ *
+ *   numbers   four for each vertex: x, y, z and flag. They come back as the vertices that are kept, in their order, and zeros behind them
+ *   lost      takes the number, from 0, of each vertex that was lost, in the order of the losses; words behind the last are as they were
+ *   work      scratch, a word for each vertex
+ *
+ * The lowest place that applies, round the end too: a point equal in x and z to the one after it loses that later one; a point, another,
+ * and the first's x and z again lose the latter two. Where both apply at one place, the first does. A point that is kept takes a 1 as its
+ * flag if one that it lost had a 1; other flags are left, as is y. So on, till neither applies or under three points are left. The
+ * doubled area stays as it was. x and z above 32,767 and flags other than 0 and 1 are not refused here; the build refuses them.
+ *
+ * A refusal writes neither `numbers` nor `lost`. After 0 and 81 the first words of `work`, one for each vertex, are 0; after 80 and 82
+ * it is as it was. The result is the reply's number. `answer` is written whatever the reply is. No slices may overlap.
+ */
+uint32_t mittencrest_mend_v1(uint16_t *numbers, size_t numbers_count,
+                             uint32_t *lost, size_t lost_count,
+                             uint32_t *work, size_t work_count,
+                             uint64_t answer[3]);
+
+/* Mends all contours of a job in place, each by itself.
+ *
+ *   lengths   for each contour how many vertices it has; they come back as how many are kept. Their number stays
+ *   numbers   as above, contour after contour; the vertices that are kept close up over the contours, with zeros behind the last
+ *   lost      as above, contour after contour; vertices are numbered through the job, as replies 3 and 4 number them
+ *   work      scratch, a word for each vertex of the longest contour
+ *
+ * Replies and buffers as above; reply 2 leaves all four, and 81 is given, and nothing mended, if the list has no room for what all
+ * contours lose together.
+ */
+uint32_t mittencrest_mend_job_v1(uint32_t *lengths, size_t lengths_count,
+                                 uint16_t *numbers, size_t numbers_count,
+                                 uint32_t *lost, size_t lost_count,
+                                 uint32_t *work, size_t work_count,
+                                 uint64_t answer[3]);
 
 /* The squared distance on the plane from the point p to the segment from a to b, one rounding for each operation. */
 float mittencrest_distance_v1(uint16_t px, uint16_t pz, uint16_t ax, uint16_t az, uint16_t bx, uint16_t bz);

@@ -14,7 +14,7 @@ use Rattle.rules.specs.declared.Refusal.{Refusal}
 use Rattle.rules.specs.declared.Refusal.the-variants.{BadCornerLimit, CountsDisagree, HighCoordinate, BadFlag, TooManyVertices, ShortBuffer, NoEarInContour, NoEarInHole}
 use Rattle.rules.specs.declared.Reply.{Reply}
 use Rattle.rules.specs.declared.Reply.the-variants.{Built, Refused}
-use Rattle.capi.specs.Numbers.{headerLength, answerLength, numberAt, headerFrom, sizeNumber, headerWords, answerWords}
+use Rattle.capi.specs.Numbers.{headerLength, answerLength, mendedLength, numberAt, headerFrom, sizeNumber, headerWords, answerWords}
 
 module _ {A : Type 0} where
   -- all places from the first on
@@ -31,6 +31,11 @@ nine w a b c d e f g h i l = written w a (b ∷ c ∷ d ∷ e ∷ f ∷ g ∷ h 
 pub four : {A : Type 0} (w : List A) (a b c d : A) → length w ≡ answerLength → set (set (set (set w 0 a) 1 b) 2 c) 3 d ≡ a ∷ b ∷ c ∷ d ∷ []
 unfolding setEach
 four w a b c d l = written w a (b ∷ c ∷ d ∷ []) l
+
+-- three
+pub three : {A : Type 0} (w : List A) (a b c : A) → length w ≡ mendedLength → set (set (set w 0 a) 1 b) 2 c ≡ a ∷ b ∷ c ∷ []
+unfolding setEach
+three w a b c l = written w a (b ∷ c ∷ []) l
 
 -- a header's numbers, read and written again
 pub size-back : (inches : Bool) (x : Float) → sizeNumber (sizeIn inches x) ≡ x

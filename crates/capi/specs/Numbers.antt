@@ -22,6 +22,10 @@ headerLength = 9
 abbrev pub answerLength : ℕ
 answerLength = 4
 
+-- and the mender's
+abbrev pub mendedLength : ℕ
+mendedLength = 3
+
 -- number k of the nine
 unfoldable pub numberAt : List Float → ℕ → Float
 numberAt ns k = getD ns k nan

@@ -3,8 +3,11 @@
 mod header; // the header and the answer as numbers
 mod measures; // the distance, and units
 mod build; // the build
+mod mender; // the mender
 
 pub use build::mittencrest_build_v1;
 pub use measures::mittencrest_distance_v1;
 pub use measures::mittencrest_millimetres_v1;
 pub use measures::mittencrest_thousandths_v1;
+pub use mender::mittencrest_mend_job_v1;
+pub use mender::mittencrest_mend_v1;
