@@ -44,7 +44,8 @@ pub extern "C" fn mittencrest_mend_v1(
     answer: &mut [u64; 3],
 ) -> u32
     ensures result { λ r. ⌜ r ≡ getD (mendWords (mendReplyOf (mendOutcome (oneContour (now (numbers .entry)) (now (lost .entry)) (now (work .entry)))))) 0 0 ⌝ }
-    ensures answer { λ _. ⌜ now (answer .exit) ≡ mendWords (mendReplyOf (mendOutcome (oneContour (now (numbers .entry)) (now (lost .entry)) (now (work .entry))))) ⌝ }
+    ensures answer { λ _. ⌜ now (answer .exit) ≡ mendWords (mendReplyOf (mendOutcome (oneContour (now (numbers .entry)) (now (lost .entry))
+        (now (work .entry))))) ⌝ }
     ensures numbers { λ _. ⌜ now (numbers .exit) ≡ mendExit (oneContour (now (numbers .entry)) (now (lost .entry)) (now (work .entry))) .numbers ⌝ }
     ensures lost { λ _. ⌜ now (lost .exit) ≡ mendExit (oneContour (now (numbers .entry)) (now (lost .entry)) (now (work .entry))) .list ⌝ }
     ensures work { λ _. ⌜ now (work .exit) ≡ mendExit (oneContour (now (numbers .entry)) (now (lost .entry)) (now (work .entry))) .work ⌝ }
@@ -62,9 +63,12 @@ pub extern "C" fn mittencrest_mend_job_v1(
     work: &mut [u32],
     answer: &mut [u64; 3],
 ) -> u32
-    ensures result { λ r. ⌜ r ≡ getD (mendWords (mendReplyOf (mendOutcome (lentOf (now (lengths .entry)) (now (numbers .entry)) (now (lost .entry)) (now (work .entry)))))) 0 0 ⌝ }
-    ensures answer { λ _. ⌜ now (answer .exit) ≡ mendWords (mendReplyOf (mendOutcome (lentOf (now (lengths .entry)) (now (numbers .entry)) (now (lost .entry)) (now (work .entry))))) ⌝ }
-    ensures words { λ _. ⌜ lentOf (now (lengths .exit)) (now (numbers .exit)) (now (lost .exit)) (now (work .exit)) ≡ mendExit (lentOf (now (lengths .entry)) (now (numbers .entry)) (now (lost .entry)) (now (work .entry))) ⌝ }
+    ensures result { λ r. ⌜ r ≡ getD (mendWords (mendReplyOf (mendOutcome
+        (lentOf (now (lengths .entry)) (now (numbers .entry)) (now (lost .entry)) (now (work .entry)))))) 0 0 ⌝ }
+    ensures answer { λ _. ⌜ now (answer .exit) ≡ mendWords (mendReplyOf (mendOutcome
+        (lentOf (now (lengths .entry)) (now (numbers .entry)) (now (lost .entry)) (now (work .entry))))) ⌝ }
+    ensures words { λ _. ⌜ lentOf (now (lengths .exit)) (now (numbers .exit)) (now (lost .exit)) (now (work .exit)) ≡ mendExit
+        (lentOf (now (lengths .entry)) (now (numbers .entry)) (now (lost .entry)) (now (work .entry))) ⌝ }
 {
     let reply = mend_job(lengths, numbers, lost, work);
     put_mended(reply, answer)

@@ -1,6 +1,6 @@
 -- What a call comes to, step by step. Assumes nothing.
 -- Key: `written`, `ended-full`, `ended-written`: what is left once the scratch was checked; `job-*`: each reply of the call.
-use mathlib.Core.Path.{_≡_, refl, sym, ap, ap₂, _∙_, subst}
+use mathlib.Core.Path.{_≡_, refl, sym, ap, ap₂, _∙_}
 use mathlib.Core.Bool.{Bool, true, false, _&&_, _||_}
 use mathlib.Core.List.{List, [], _∷_, _++_, append-nil}
 use Prim.Native.Nat.{ℕ, _+_, _-_, _*_, _/_, _≤_, _<_}
@@ -8,19 +8,19 @@ use native.Mathlib.Omega.{arith}
 use lib.Dec.{eqb, ltb, leb}
 use borrow.Author.Tests.{lt-ltb, le-ltb, le-leb, lt-leb, eq-eqb, ne-eqb, eqb-true, ltb-false}
 use lib.ListN.{length, take, drop, replicate, length-replicate, drop-of-length-le}
-use Rattle.ints.specs.Bools.{and-left, and-right}
+use Rattle.ints.specs.Bools.{and-right}
 use Rattle.mem.specs.Loops.{run, over}
 use Rattle.mem.specs.Slice.{splice, splice-eq}
 use Rattle.rules.specs.Job.{jobStride, sumOver}
 use Rattle.rules.specs.Mend.{Mending}
-use Rattle.rules.specs.MendCall.{MendLent, MendOutcome, notWhole, lengthsDisagree, shortScratch, listFull, mends, mendedJob, keptLengths, keptCount, keptWords}
+use Rattle.rules.specs.MendCall.{MendLent, mendedJob, keptLengths, keptCount, keptWords}
 use Rattle.rules.specs.MendCall.{lostNumbers, mendedNumbers, verticesIn, areWhole, lengthsAgree, longest, verticesMost, isShortScratch, isListFull, mendOutcome}
 use Rattle.rules.specs.MendCall.{mendReplyOf, scratchWiped, mendExitOf, mendExit, oneContour}
 use Rattle.rules.specs.declared.MendReply.{MendReply}
 use Rattle.rules.specs.declared.MendReply.the-variants.{Mended, NotWhole, LengthsDisagree, ShortScratch, ListFull}
 use Rattle.checks.specs.Sums.{sumAll, partOf}
 use Rattle.mend.specs.declared.contours.Tally.{Tally}
-use Rattle.mend.specs.Contours.{CountReady, Counted, AllReady, AllMended}
+use Rattle.mend.specs.Contours.{CountReady, Counted, AllMended}
 use Rattle.mend.specs.Call.{lentOf, MendReady, WriteReady, Written, checkedOutcome, Ended}
 
 -- ---- the lengths agree

@@ -1,10 +1,10 @@
 -- Vertices move down, one after the other: what was written does not reach those that are still to move. Assumes nothing.
 -- Key: `closing-begin`, `closing-both`, `closing-more`, `closing-end`: the loop's begin, what a move asks for, its turn and its end.
-use mathlib.Core.Path.{_≡_, refl, sym, ap, ap₂, _∙_, subst}
+use mathlib.Core.Path.{_≡_, refl, sym, ap, ap₂, _∙_}
 use mathlib.Core.List.{List, [], _∷_, _++_, map}
-use Prim.Native.Nat.{ℕ, zero, suc, _+_, _-_, _*_, _≤_, _<_}
+use Prim.Native.Nat.{ℕ, _+_, _*_, _≤_, _<_}
 use native.Mathlib.Omega.{arith}
-use lib.ListN.{length, getD, set, take, length-append, length-map}
+use lib.ListN.{length, getD, set, take, length-map}
 use lib.Seq.{length-take-le, take-all}
 use Rattle.mem.specs.Slice.{splice, splice-nil, splice-append, length-splice, getD-splice-above, stored-each, setEach, take-snoc}
 use Rattle.mem.specs.Packed.{packed, packed-append}

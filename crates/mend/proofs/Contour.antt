@@ -1,9 +1,9 @@
 -- One contour is walked, and its kept points close up. Assumes nothing.
 -- Key: `close-ready`: the kept points may move down; `contour-mended`: what is left is what the sentences give.
-use mathlib.Core.Path.{_≡_, refl, sym, ap, ap₂, _∙_, subst}
-use mathlib.Core.Bool.{Bool, true, false}
-use mathlib.Core.List.{List, [], _∷_, _++_, map}
-use Prim.Native.Nat.{ℕ, zero, suc, _+_, _-_, _*_, _≤_, _<_}
+use mathlib.Core.Path.{_≡_, sym, ap, ap₂, _∙_, subst}
+use mathlib.Core.Bool.{true}
+use mathlib.Core.List.{List, _++_, map}
+use Prim.Native.Nat.{ℕ, zero, suc, _+_, _*_, _≤_, _<_}
 use native.Mathlib.Omega.{arith}
 use lib.ListN.{length, getD, take, drop, length-map}
 use lib.Seq.{take-take}
@@ -11,16 +11,16 @@ use Rattle.mem.specs.Slice.{view, splice, take-splice-end, drop-splice, length-
 use Rattle.mem.specs.Tab.{length-tab}
 use Rattle.mem.specs.Packed.{packed}
 use Rattle.rules.specs.Job.{jobStride}
-use Rattle.rules.specs.Mend.{Traced, traced, Mending, mended}
+use Rattle.rules.specs.Mend.{traced, Mending, mended}
 use Rattle.rules.specs.MendCall.{tracedWords}
-use Rattle.laws.specs.Lists.{All, all-at, all-head, all-tail}
+use Rattle.laws.specs.Lists.{All, all-at, all-head}
 use Rattle.laws.specs.Mend.{mend-counted}
 use Rattle.laws.specs.MendNumbers.{Numbered, pointOf, mendingOf, Up, up-none, up-more}
 use Rattle.laws.specs.MendWalked.{walkedBy, walked-same, walked-sound, walked-fine}
 use Rattle.mend.specs.declared.ends.Span.{Span}
 use Rattle.mend.specs.Walking.{listed}
 use Rattle.mend.specs.Closing.{CloseReady}
-use Rattle.mend.specs.Walks.{WalkReady, WalkLeft}
+use Rattle.mend.specs.Walks.{WalkLeft}
 use Rattle.mend.specs.Contours.{ContourReady, ContourMended}
 use Rattle.mend.proofs.Closing.{length-words}
 

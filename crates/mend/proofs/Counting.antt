@@ -1,21 +1,20 @@
 -- The contours, one after the other: how many vertices are left, and the loop that counts what they lose. Assumes nothing.
 -- Key: `counting-begin`, `counting-ready`, `counting-more`, `counting-end`: the loop's begin, what a walk asks for, its turn and its end.
-use mathlib.Core.Path.{_≡_, refl, sym, ap, ap₂, _∙_, subst}
-use mathlib.Core.Bool.{Bool, true, false, cond}
-use mathlib.Core.List.{List, [], _∷_, _++_, map}
+use mathlib.Core.Path.{_≡_, refl, sym, ap, _∙_, subst}
+use mathlib.Core.Bool.{false}
+use mathlib.Core.List.{List, [], _∷_, map}
 use mathlib.Core.Logic.{⊎-elim}
 use Prim.Native.Nat.{ℕ, zero, suc, _+_, _-_, _*_, _≤_, _<_}
 use native.Mathlib.Omega.{arith}
-use lib.Dec.{ltb}
 use borrow.Author.Tests.{lt-ltb, le-ltb}
-use lib.ListN.{length, getD, take, drop, length-append}
+use lib.ListN.{length, getD, drop, length-append}
 use lib.Seq.{drop-cons, drop-drop}
 use Rattle.mem.specs.Cases.{lt-or-le}
-use Rattle.mem.specs.Loops.{run, over, over-turn, over-end}
+use Rattle.mem.specs.Loops.{run, over, over-turn}
 use Rattle.mem.specs.Packed.{packed}
 use Rattle.rules.specs.Job.{jobStride, sumOver}
-use Rattle.rules.specs.Mend.{Traced, traced, Mending, mended}
-use Rattle.rules.specs.MendCall.{verticesMost, tracedFrom, mendedJob, lostNumbers, longer, longest}
+use Rattle.rules.specs.Mend.{traced, Mending, mended}
+use Rattle.rules.specs.MendCall.{tracedFrom, mendedJob, lostNumbers, longer, longest}
 use Rattle.laws.specs.Mend.{mend-counted}
 use Rattle.laws.specs.MendNumbers.{mendingOf}
 use Rattle.laws.specs.MendWalked.{walkedBy, walked-same, walked-dry}

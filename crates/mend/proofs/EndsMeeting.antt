@@ -1,8 +1,8 @@
 -- Which ends meet, test by test. Assumes nothing.
-use mathlib.Core.Path.{_≡_, refl, sym, ap₂, _∙_}
+use mathlib.Core.Path.{_≡_, sym, ap₂, _∙_}
 use mathlib.Core.Bool.{Bool, true, false}
 use mathlib.Core.List.{List}
-use Prim.Native.Nat.{ℕ, _+_, _-_, _*_, _≤_, _<_}
+use Prim.Native.Nat.{ℕ, _+_, _-_, _≤_, _<_}
 use native.Mathlib.Omega.{arith}
 use borrow.Author.Tests.{lt-ltb, le-ltb}
 use lib.ListN.{length, getD}
@@ -13,7 +13,7 @@ use Rattle.laws.specs.MendEnds.{turn-few, turn-near, turn-last, turn-last-two, 
 use Rattle.mend.specs.declared.ends.Span.{Span}
 use Rattle.mend.specs.declared.ends.Ends.the-variants.{Near, Last, LastTwo, Apart}
 use Rattle.mend.specs.Losing.{BothIn}
-use Rattle.mend.specs.Ending.{Held, EndsReady, endOf, EndsMet}
+use Rattle.mend.specs.Ending.{Held, endOf, EndsMet}
 
 -- two numbers of the stack are of vertices that are there
 pub held-both : {ns st : List ℕ} {p q : ℕ} (h : Held ns st) (i j : ℕ) → i < length st → j < length st → p ≡ getD st i 0 → q ≡ getD st j 0 → BothIn ns p q

@@ -1,20 +1,20 @@
 -- The loop over a contour's points: the state that stands in memory, from which the points that are left give the whole. Assumes nothing.
 -- Key: `going-begin`, `going-ready`, `going-more`, `going-end`: the loop's begin, what a pass asks for, its turn and its end.
-use mathlib.Core.Path.{_≡_, refl, sym, ap, ap₂, _∙_, subst}
+use mathlib.Core.Path.{_≡_, refl, sym, ap, _∙_, subst}
 use mathlib.Core.Bool.{Bool, true, false, cond}
-use mathlib.Core.List.{List, [], _∷_, _++_}
-use Prim.Native.Nat.{ℕ, _+_, _-_, _*_, _≤_, _<_}
+use mathlib.Core.List.{List, [], _∷_}
+use Prim.Native.Nat.{ℕ, _+_, _-_, _≤_, _<_}
 use native.Mathlib.Omega.{arith}
-use lib.ListN.{length, getD, take, drop, set, length-set}
-use lib.Seq.{getD-set-same, take-set-le, drop-set-lt}
+use lib.ListN.{length, set, length-set}
+use lib.Seq.{getD-set-same, drop-set-lt}
 use Rattle.mem.specs.Loops.{each, each-turn, each-end}
-use Rattle.mem.specs.Slice.{splice, splice-nil, length-splice, take-snoc}
+use Rattle.mem.specs.Slice.{splice-nil, length-splice, take-snoc}
 use Rattle.laws.specs.Lists.{All, none, more}
 use Rattle.laws.specs.MendPass.{Passing, pass}
 use Rattle.laws.specs.MendWalk.{passStart, passedAll}
 use Rattle.laws.specs.MendWithin.{outside-none, Fine, fine-pass, grows-pass, lost-grows}
 use Rattle.mend.specs.declared.pass.Walk.{Walk}
-use Rattle.mend.specs.Walking.{listed, Begun, Stands, MeetsReady, PassReady, Passed, AllReady, AllPassed}
+use Rattle.mend.specs.Walking.{listed, Begun, Stands, PassReady, Passed, AllReady, AllPassed}
 use Rattle.mend.proofs.Passing.{room-less}
 
 -- what the walk of all points begins with

@@ -1,25 +1,24 @@
 -- The contours, one after the other, are mended: those that are done stand in front, the others are as they were. Assumes nothing.
 -- Key: `mending-begin`, `mending-ready`, `mending-more`, `mending-end`: the loop's begin, what a contour asks for, its turn and its end.
-use mathlib.Core.Path.{_≡_, refl, sym, ap, ap₂, _∙_, subst}
-use mathlib.Core.Bool.{Bool, true, false, cond}
-use mathlib.Core.List.{List, [], _∷_, _++_, map, append-assoc, append-nil}
+use mathlib.Core.Path.{_≡_, refl, sym, ap, ap₂, _∙_}
+use mathlib.Core.Bool.{true}
+use mathlib.Core.List.{List, [], _∷_, _++_, append-assoc, append-nil}
 use Prim.Native.Nat.{ℕ, zero, suc, _+_, _-_, _*_, _≤_, _<_}
 use native.Mathlib.Omega.{arith}
 use lib.ListN.{length, getD, set, take, drop, length-append, length-map, List·getD-append}
 use lib.Seq.{getD-drop, getD-at}
 use Rattle.mem.specs.Loops.{run, over, over-end, over-cong}
 use Rattle.mem.specs.Slice.{splice, splice-nil, splice-snoc, splice-append, splice-whole, length-splice, getD-splice-above}
-use Rattle.mem.specs.Tab.{tab, tab-cong}
+use Rattle.mem.specs.Tab.{tab-cong}
 use Rattle.mem.specs.Packed.{packed, packed-append}
 use Rattle.rules.specs.Job.{jobStride, vertexAt, flagAt, sumOver}
-use Rattle.rules.specs.Mend.{Traced, traced, Mending, mended}
+use Rattle.rules.specs.Mend.{traced, Mending, mended}
 use Rattle.rules.specs.MendCall.{verticesMost, tracedWords, tracedFrom, mendedJob, keptLengths, keptCount, keptWords, lostNumbers, longest}
 use Rattle.laws.specs.Lists.{map-append}
 use Rattle.laws.specs.MendNumbers.{mendingOf}
 use Rattle.laws.specs.MendWalked.{walkedBy, walked-same}
 use Rattle.mend.specs.declared.contours.Tally.{Tally}
-use Rattle.mend.specs.Walks.{WalkReady}
-use Rattle.mend.specs.Contours.{CountReady, ContourReady, ContourMended, AllReady, AllMended}
+use Rattle.mend.specs.Contours.{ContourReady, ContourMended, AllReady, AllMended}
 use Rattle.mend.proofs.Counting.{verticesFrom, mendedFrom, mended-turn, mended-end, mended-all, longest-at, rest-above, contour-inside, lost-most}
 
 -- vertices from the place `first` on are read alike

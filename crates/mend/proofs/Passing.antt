@@ -2,19 +2,18 @@
 use mathlib.Core.Path.{_≡_, refl, sym, ap, _∙_, subst}
 use mathlib.Core.Bool.{Bool, true, false, cond}
 use mathlib.Core.List.{List, [], _∷_, _++_}
-use Prim.Native.Nat.{ℕ, _+_, _-_, _*_, _≤_, _<_}
+use Prim.Native.Nat.{ℕ, _+_, _-_, _≤_, _<_}
 use native.Mathlib.Omega.{arith}
-use lib.ListN.{length, getD, take, set, length-append}
+use lib.ListN.{length, getD, set, length-append}
 use lib.Seq.{getD-take, length-take-le}
-use Rattle.rules.specs.MendCall.{verticesMost}
 use Rattle.laws.specs.Lists.{all-at}
-use Rattle.laws.specs.MendNumbers.{carriedIf, length-carried-if}
+use Rattle.laws.specs.MendNumbers.{length-carried-if}
 use Rattle.laws.specs.MendPass.{Passing, topOf, joining, losing, turning, pass}
 use Rattle.mend.specs.declared.pass.Walk.{Walk}
 use Rattle.mend.specs.declared.pass.Meets.{Meets}
 use Rattle.mend.specs.declared.pass.Meets.the-variants.{Top, Second, Neither}
-use Rattle.mend.specs.Losing.{BothIn, LoseReady, Lost}
-use Rattle.mend.specs.Walking.{Begun, Stands, MeetsReady, Met, PassReady, Passed}
+use Rattle.mend.specs.Losing.{LoseReady, Lost}
+use Rattle.mend.specs.Walking.{Begun, Stands, Met, PassReady, Passed}
 use Rattle.mend.proofs.Meeting.{both-in}
 use Rattle.mend.proofs.Walking.{top-is, second-is, state-is, stands-joined, stands-lost, stands-turned}
 

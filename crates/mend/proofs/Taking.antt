@@ -2,18 +2,18 @@
 -- Key: `taking-begin`, `taking-ready`, `taking-still`, `taking-more`, `taking-end`: the loop's begin, what a turn asks for, a turn that does nothing, one that
 -- does something, and the loop's end.
 use mathlib.Core.Path.{_≡_, refl, sym, ap, ap₂, _∙_, subst}
-use mathlib.Core.Bool.{Bool, true, false, cond}
-use mathlib.Core.List.{List, [], _∷_, _++_, append-nil}
-use Prim.Native.Nat.{ℕ, zero, suc, _+_, _-_, _*_, _≤_, _<_}
+use mathlib.Core.Bool.{Bool, cond}
+use mathlib.Core.List.{List, [], _++_, append-nil}
+use Prim.Native.Nat.{ℕ, _+_, _-_, _≤_, _<_}
 use native.Mathlib.Omega.{arith}
 use lib.ListN.{length, length-append}
 use Rattle.mem.specs.Loops.{times, times-end, times-turn, times-still}
-use Rattle.laws.specs.Lists.{All, all-imp}
+use Rattle.laws.specs.Lists.{all-imp}
 use Rattle.laws.specs.MendEnds.{Ending, endTurn, turn-still, turns-grow, turn-count}
 use Rattle.laws.specs.MendWithin.{outside-none, FineEnds, fine-turn}
 use Rattle.laws.specs.MendDry.{behind, turns-behind}
 use Rattle.mend.specs.declared.ends.Span.{Span}
-use Rattle.mend.specs.Ending.{StandsAt, Held, endOf, EndsReady, TurnReady, Turned, TakeReady, Taken}
+use Rattle.mend.specs.Ending.{StandsAt, Held, endOf, TurnReady, Turned, TakeReady, Taken}
 use Rattle.mend.proofs.Passing.{room-less}
 use Rattle.mend.proofs.Going.{length-listed}
 use Rattle.mend.proofs.EndTurns.{here-stands}

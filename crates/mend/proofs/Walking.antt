@@ -1,16 +1,14 @@
 -- What stands in memory while points are passed. Assumes nothing.
-use mathlib.Core.Path.{_≡_, refl, sym, ap, ap₂, _∙_, subst}
-use mathlib.Core.Bool.{Bool, true, false, cond, _&&_}
+use mathlib.Core.Path.{_≡_, refl, sym, ap, ap₂, _∙_}
+use mathlib.Core.Bool.{Bool, true, false, cond}
 use mathlib.Core.List.{List, [], _∷_, _++_}
-use Prim.Native.Nat.{ℕ, _+_, _-_, _*_, _≤_, _<_}
+use Prim.Native.Nat.{ℕ, _+_, _-_, _≤_, _<_}
 use native.Mathlib.Omega.{arith}
-use lib.Dec.{ltb}
-use borrow.Author.Tests.{lt-ltb, le-ltb}
-use lib.ListN.{length, getD, take, drop, set, length-set, length-append}
+use lib.ListN.{length, getD, take, set, length-set, length-append}
 use lib.Seq.{getD-take, getD-set-same, take-set-le, drop-set-lt, length-take-le, take-take}
-use Rattle.mem.specs.Slice.{splice, splice-snoc, take-snoc}
-use Rattle.laws.specs.MendNumbers.{carriedIf, samePlace}
-use Rattle.laws.specs.MendPass.{Passing, topOf, secondOf, joining, losing, turning, pass, pass-few, pass-lost, pass-turned, pass-joined}
+use Rattle.mem.specs.Slice.{splice-snoc, take-snoc}
+use Rattle.laws.specs.MendNumbers.{carriedIf}
+use Rattle.laws.specs.MendPass.{Passing, topOf, secondOf, joining, losing, turning}
 use Rattle.mend.specs.declared.pass.Walk.{Walk}
 use Rattle.mend.specs.Losing.{Lost}
 use Rattle.mend.specs.Walking.{listed, Begun, Stands, stateOf}

@@ -2,8 +2,8 @@
 -- Key: `pass-ready`, `take-ready`: what the two steps ask for; `walk-left`: what both leave.
 use mathlib.Core.Path.{_≡_, refl, sym, ap, ap₂, _∙_, subst}
 use mathlib.Core.Bool.{Bool, true, false, cond}
-use mathlib.Core.List.{List, [], _∷_, _++_, append-nil}
-use Prim.Native.Nat.{ℕ, zero, suc, _+_, _-_, _*_, _≤_, _<_}
+use mathlib.Core.List.{List, [], _++_, append-nil}
+use Prim.Native.Nat.{ℕ, zero, suc, _+_, _-_, _≤_, _<_}
 use native.Mathlib.Omega.{arith}
 use lib.ListN.{length, take, drop, length-append}
 use Rattle.mem.specs.Loops.{times}
@@ -11,10 +11,9 @@ use Rattle.mem.specs.Slice.{view, splice-append, length-view, take-drop-take}
 use Rattle.laws.specs.Lists.{All}
 use Rattle.laws.specs.MendPass.{Passing}
 use Rattle.laws.specs.MendNumbers.{Numbered}
-use Rattle.laws.specs.MendEnds.{Ending, partOf, endTurn, endsBy, turns-grow}
+use Rattle.laws.specs.MendEnds.{Ending, partOf, endTurn, endsBy}
 use Rattle.laws.specs.MendEnded.{endStart, endedAll}
 use Rattle.laws.specs.MendWalk.{passedAll}
-use Rattle.laws.specs.MendWithin.{FineEnds, lost-grows}
 use Rattle.laws.specs.MendDry.{behind, turns-behind}
 use Rattle.laws.specs.MendWalked.{walkedBy, walked-some, passed-fine, ended-fine}
 use Rattle.mend.specs.declared.pass.Walk.{Walk}

@@ -2,7 +2,7 @@
 use mathlib.Core.Path.{_≡_}
 use mathlib.Core.Bool.{true, false}
 use mathlib.Core.List.{List}
-use Prim.Native.Nat.{ℕ, _*_, _≤_}
+use Prim.Native.Nat.{ℕ, _*_}
 use lib.ListN.{length}
 use Rattle.rules.specs.Job.{jobStride, sumOver}
 use Rattle.rules.specs.MendCall.{MendLent, MendOutcome, mends, listFull, mendedJob, isListFull, longest, mendReplyOf, mendExitOf}

@@ -3,12 +3,12 @@ use mathlib.Core.Path.{_≡_}
 use mathlib.Core.Bool.{Bool, cond}
 use mathlib.Core.List.{List, []}
 use Prim.Native.Nat.{ℕ, _+_, _*_, _≤_, _<_}
-use lib.ListN.{length}
+use lib.ListN.{length, getD}
 use Rattle.mem.specs.Loops.{times}
 use Rattle.rules.specs.Job.{jobStride}
 use Rattle.rules.specs.MendCall.{verticesMost}
 use Rattle.laws.specs.Lists.{All}
-use Rattle.laws.specs.MendEnds.{Ending, offFront, offBack, endTurn}
+use Rattle.laws.specs.MendEnds.{Ending, off, offFront, offBack, endTurn}
 use Rattle.mend.specs.declared.ends.Span.{Span}
 use Rattle.mend.specs.declared.ends.Ends.{Ends}
 use Rattle.mend.specs.declared.ends.Ends.the-variants.{Near, Last, LastTwo, Apart}
@@ -31,19 +31,18 @@ pub record Held (ns st : List ℕ) : Type 0 where
 
 -- ---- one is lost at an end
 
--- at least m are left
-pub record OffReady (t : Bool) (ns ls st : List ℕ) (m : ℕ) (at : Span) : Type 0 where
+-- the two places are on the stack, and some points are left
+pub record OffReady (t : Bool) (ns ls st : List ℕ) (kept gone : ℕ) (at : Span) : Type 0 where
   pub held : Held ns st
-  pub within : at .lo + at .n ≤ length st
-  pub some : m ≤ at .n
+  pub kept-in : kept < length st
+  pub gone-in : gone < length st
+  pub some : 1 ≤ at .n
   pub few : at .lost ≤ verticesMost + 1
   pub room : cond t (at .lost + 1) 0 ≤ length ls
 
-pub record OffFront (t : Bool) (at r : Span) (st ns ls ns′ ls′ : List ℕ) : Type 0 where
-  pub stands : (ls₀ : List ℕ) (k : ℕ) (w : Ending) → StandsAt t ls₀ k w ns ls at → StandsAt t ls₀ k (offFront t st w) ns′ ls′ r
-
-pub record OffBack (t : Bool) (at r : Span) (st ns ls ns′ ls′ : List ℕ) : Type 0 where
-  pub stands : (ls₀ : List ℕ) (k : ℕ) (w : Ending) → StandsAt t ls₀ k w ns ls at → StandsAt t ls₀ k (offBack t st w) ns′ ls′ r
+pub record Off (t : Bool) (kept gone lo : ℕ) (at r : Span) (st ns ls ns′ ls′ : List ℕ) : Type 0 where
+  pub stands : (ls₀ : List ℕ) (k : ℕ) (w : Ending) → StandsAt t ls₀ k w ns ls at
+      → StandsAt t ls₀ k (off t lo (getD st kept 0) (getD st gone 0) w) ns′ ls′ r
 
 -- ---- which ends meet
 

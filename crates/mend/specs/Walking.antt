@@ -1,7 +1,7 @@
 -- The points of a contour are passed: what stands in memory, what is asked for, and what is left. Definitions only.
 use mathlib.Core.Path.{_≡_}
 use mathlib.Core.Bool.{Bool, cond}
-use mathlib.Core.List.{List, [], _∷_}
+use mathlib.Core.List.{List}
 use Prim.Native.Nat.{ℕ, _+_, _-_, _*_, _≤_, _<_}
 use lib.ListN.{length, take, drop}
 use Rattle.mem.specs.Slice.{splice}
@@ -10,7 +10,6 @@ use Rattle.rules.specs.MendCall.{verticesMost}
 use Rattle.laws.specs.Lists.{All}
 use Rattle.laws.specs.MendPass.{Passing, joining, losing, turning, pass}
 use Rattle.laws.specs.MendWalk.{passedAll}
-use Rattle.laws.specs.MendWithin.{Fine}
 use Rattle.mend.specs.declared.pass.Walk.{Walk}
 use Rattle.mend.specs.declared.pass.Meets.{Meets}
 use Rattle.mend.specs.declared.pass.Meets.the-variants.{Top, Second, Neither}

@@ -32,7 +32,8 @@ fn move_vertex(numbers: &mut [u16], from: usize, to: usize)
 // The vertices of these numbers, which rise, move to the places from `to` on.
 pub fn close_up(numbers: &mut [u16], kept: &[u32], to: usize)
     requires { ⌜ CloseReady (now numbers) (now kept) to ⌝ }
-    ensures { λ _. ⌜ now (numbers .exit) ≡ splice (now (numbers .entry)) (to * jobStride) (packed tracedWords (map (pointOf (now (numbers .entry))) (now (kept .entry)))) ⌝ }
+    ensures { λ _. ⌜ now (numbers .exit) ≡ splice (now (numbers .entry)) (to * jobStride) (packed tracedWords
+        (map (pointOf (now (numbers .entry))) (now (kept .entry)))) ⌝ }
 {
     let mut i = 0;
     while i < kept.len() {

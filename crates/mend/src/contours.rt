@@ -1,5 +1,4 @@
 // The contours of a job, one after the other: what they lose is counted, and then they are mended.
-ghost use mathlib.Core.Path.{_≡_};
 ghost use Rattle.mend.specs.Contours.{ContourReady, ContourMended, CountReady, Counted, AllReady, AllMended};
 use crate::close::close_up;
 use crate::walk::walk;
@@ -23,7 +22,8 @@ fn mend_contour(
     lost: usize,
 ) -> Tally
     requires { ⌜ ContourReady (now numbers) (now list) (now work) first n to lost ⌝ }
-    ensures { λ r. ⌜ ContourMended first n to lost r (now (numbers .entry)) (now (list .entry)) (now (work .entry)) (now (numbers .exit)) (now (list .exit)) (now (work .exit)) ⌝ }
+    ensures { λ r. ⌜ ContourMended first n to lost r (now (numbers .entry)) (now (list .entry)) (now (work .entry)) (now (numbers .exit))
+        (now (list .exit)) (now (work .exit)) ⌝ }
 {
     let at = walk(true, numbers, list, work, first, n, lost);
     let lo = at.lo;
@@ -38,7 +38,8 @@ fn mend_contour(
 // How many points all contours lose. Only the scratch is written.
 pub fn count_lost(lengths: &[u32], numbers: &mut [u16], list: &mut [u32], work: &mut [u32]) -> usize
     requires { ⌜ CountReady (now lengths) (now numbers) (now work) ⌝ }
-    ensures { λ r. ⌜ Counted r (now (lengths .entry)) (now (numbers .entry)) (now (list .entry)) (now (work .entry)) (now (numbers .exit)) (now (list .exit)) (now (work .exit)) ⌝ }
+    ensures { λ r. ⌜ Counted r (now (lengths .entry)) (now (numbers .entry)) (now (list .entry)) (now (work .entry)) (now (numbers .exit))
+        (now (list .exit)) (now (work .exit)) ⌝ }
 {
     let mut first = 0;
     let mut lost = 0;
@@ -61,7 +62,8 @@ pub fn mend_all(
     work: &mut [u32],
 ) -> Tally
     requires { ⌜ AllReady (now lengths) (now numbers) (now list) (now work) ⌝ }
-    ensures { λ r. ⌜ AllMended r (now (lengths .entry)) (now (numbers .entry)) (now (list .entry)) (now (work .entry)) (now (lengths .exit)) (now (numbers .exit)) (now (list .exit)) (now (work .exit)) ⌝ }
+    ensures { λ r. ⌜ AllMended r (now (lengths .entry)) (now (numbers .entry)) (now (list .entry)) (now (work .entry)) (now (lengths .exit))
+        (now (numbers .exit)) (now (list .exit)) (now (work .exit)) ⌝ }
 {
     let mut all = Tally { kept: 0, lost: 0 };
     let mut first = 0;

@@ -1,5 +1,5 @@
 // When all points are passed only the two ends of the stack can be at fault. `stack` is all of it; what is left is a part of it.
-ghost use Rattle.mend.specs.Ending.{OffReady, OffFront, OffBack, EndsReady, EndsMet, TurnReady, Turned, TakeReady, Taken};
+ghost use Rattle.mend.specs.Ending.{OffReady, Off, EndsReady, EndsMet, TurnReady, Turned, TakeReady, Taken};
 use crate::lose::lose;
 use crate::lose::same_place;
 use words::places::link_at;
@@ -19,31 +19,25 @@ enum Ends {
     Apart,
 }
 
-// The first is lost, after the last.
-fn off_front(writes: bool, numbers: &mut [u16], list: &mut [u32], stack: &[u32], at: Span) -> Span
-    requires { ⌜ OffReady writes (now numbers) (now list) (now stack) 1 at ⌝ }
-    ensures { λ r. ⌜ OffFront writes at r (now (stack .entry)) (now (numbers .entry)) (now (list .entry)) (now (numbers .exit)) (now (list .exit)) ⌝ }
+// The number at the place `gone` of the stack is lost after the one at `kept`; what is left begins at `lo` then.
+fn off(
+    writes: bool,
+    numbers: &mut [u16],
+    list: &mut [u32],
+    stack: &[u32],
+    kept: usize,
+    gone: usize,
+    lo: usize,
+    at: Span,
+) -> Span
+    requires { ⌜ OffReady writes (now numbers) (now list) (now stack) kept gone at ⌝ }
+    ensures { λ r. ⌜ Off writes kept gone lo at r (now (stack .entry)) (now (numbers .entry)) (now (list .entry)) (now (numbers .exit)) (now (list .exit)) ⌝ }
 {
-    let p = link_at(stack, at.lo + (at.n - 1));
-    let q = link_at(stack, at.lo);
+    let p = link_at(stack, kept);
+    let q = link_at(stack, gone);
     lose(writes, numbers, list, at.lost, p, q);
     Span {
-        lo: at.lo + 1,
-        n: at.n - 1,
-        lost: at.lost + 1,
-    }
-}
-
-// The last is lost, after the one before it.
-fn off_back(writes: bool, numbers: &mut [u16], list: &mut [u32], stack: &[u32], at: Span) -> Span
-    requires { ⌜ OffReady writes (now numbers) (now list) (now stack) 2 at ⌝ }
-    ensures { λ r. ⌜ OffBack writes at r (now (stack .entry)) (now (numbers .entry)) (now (list .entry)) (now (numbers .exit)) (now (list .exit)) ⌝ }
-{
-    let p = link_at(stack, at.lo + (at.n - 2));
-    let q = link_at(stack, at.lo + (at.n - 1));
-    lose(writes, numbers, list, at.lost, p, q);
-    Span {
-        lo: at.lo,
+        lo: lo,
         n: at.n - 1,
         lost: at.lost + 1,
     }
@@ -76,15 +70,27 @@ fn off_ends(writes: bool, numbers: &mut [u16], list: &mut [u32], stack: &[u32], 
     requires { ⌜ TurnReady writes (now numbers) (now list) (now stack) at ⌝ }
     ensures { λ r. ⌜ Turned writes at r (now (stack .entry)) (now (numbers .entry)) (now (list .entry)) (now (numbers .exit)) (now (list .exit)) ⌝ }
 {
+    let lo = at.lo;
     match ends_meet(numbers, stack, at) {
         Ends::Near => {
-            let rest = off_back(writes, numbers, list, stack, at);
-            off_front(writes, numbers, list, stack, rest)
+            let last = lo + (at.n - 1);
+            let rest = off(writes, numbers, list, stack, last - 1, last, lo, at);
+            off(writes, numbers, list, stack, last - 1, lo, lo + 1, rest)
         }
-        Ends::Last => off_front(writes, numbers, list, stack, at),
+        Ends::Last => off(
+            writes,
+            numbers,
+            list,
+            stack,
+            lo + (at.n - 1),
+            lo,
+            lo + 1,
+            at,
+        ),
         Ends::LastTwo => {
-            let rest = off_front(writes, numbers, list, stack, at);
-            off_front(writes, numbers, list, stack, rest)
+            let last = lo + (at.n - 1);
+            let rest = off(writes, numbers, list, stack, last, lo, lo + 1, at);
+            off(writes, numbers, list, stack, last, lo + 1, lo + 2, rest)
         }
         Ends::Apart => at,
     }

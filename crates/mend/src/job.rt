@@ -61,7 +61,8 @@ fn write(
     most: usize,
 ) -> MendReply
     requires { ⌜ WriteReady (now lengths) (now numbers) (now list) (now work) most ⌝ }
-    ensures { λ r. ⌜ Written r (lentOf (now (lengths .entry)) (now (numbers .entry)) (now (list .entry)) (now (work .entry))) (lentOf (now (lengths .exit)) (now (numbers .exit)) (now (list .exit)) (now (work .exit))) ⌝ }
+    ensures { λ r. ⌜ Written r (lentOf (now (lengths .entry)) (now (numbers .entry)) (now (list .entry)) (now (work .entry)))
+        (lentOf (now (lengths .exit)) (now (numbers .exit)) (now (list .exit)) (now (work .exit))) ⌝ }
 {
     let all = mend_all(lengths, numbers, list, work);
     let at = all.kept * JOB_STRIDE;
@@ -79,7 +80,8 @@ fn mend_checked(
     most: usize,
 ) -> MendReply
     requires { ⌜ MendReady (now lengths) (now numbers) (now work) most ⌝ }
-    ensures { λ r. ⌜ Ended r (lentOf (now (lengths .entry)) (now (numbers .entry)) (now (list .entry)) (now (work .entry))) (lentOf (now (lengths .exit)) (now (numbers .exit)) (now (list .exit)) (now (work .exit))) ⌝ }
+    ensures { λ r. ⌜ Ended r (lentOf (now (lengths .entry)) (now (numbers .entry)) (now (list .entry)) (now (work .entry)))
+        (lentOf (now (lengths .exit)) (now (numbers .exit)) (now (list .exit)) (now (work .exit))) ⌝ }
 {
     let lost = count_lost(lengths, numbers, list, work);
     if list.len() < lost {
@@ -98,7 +100,8 @@ pub fn mend_job(
     work: &mut [u32],
 ) -> MendReply
     ensures reply { λ r. ⌜ r ≡ mendReplyOf (mendOutcome (lentOf (now (lengths .entry)) (now (numbers .entry)) (now (list .entry)) (now (work .entry)))) ⌝ }
-    ensures words { λ _. ⌜ lentOf (now (lengths .exit)) (now (numbers .exit)) (now (list .exit)) (now (work .exit)) ≡ mendExit (lentOf (now (lengths .entry)) (now (numbers .entry)) (now (list .entry)) (now (work .entry))) ⌝ }
+    ensures words { λ _. ⌜ lentOf (now (lengths .exit)) (now (numbers .exit)) (now (list .exit)) (now (work .exit)) ≡ mendExit
+        (lentOf (now (lengths .entry)) (now (numbers .entry)) (now (list .entry)) (now (work .entry))) ⌝ }
 {
     let n = numbers.len() / JOB_STRIDE;
     if n * JOB_STRIDE < numbers.len() {

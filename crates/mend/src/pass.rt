@@ -1,5 +1,4 @@
 // The points of a contour are passed, one after the other. Those that are kept so far are a stack of numbers at the scratch's beginning.
-ghost use mathlib.Core.Path.{_≡_};
 ghost use Rattle.mend.specs.Walking.{MeetsReady, Met, PassReady, Passed, AllReady, AllPassed};
 use crate::lose::lose;
 use crate::lose::same_place;
@@ -49,7 +48,8 @@ fn pass(
     at: Walk,
 ) -> Walk
     requires { ⌜ PassReady writes (now numbers) (now list) (now work) e j at ⌝ }
-    ensures { λ r. ⌜ Passed writes e j at r (now (numbers .entry)) (now (list .entry)) (now (work .entry)) (now (numbers .exit)) (now (list .exit)) (now (work .exit)) ⌝ }
+    ensures { λ r. ⌜ Passed writes e j at r (now (numbers .entry)) (now (list .entry)) (now (work .entry)) (now (numbers .exit)) (now (list .exit))
+        (now (work .exit)) ⌝ }
 {
     let top = at.top;
     let lost = at.lost;
@@ -93,7 +93,8 @@ pub fn pass_all(
     lost: usize,
 ) -> Walk
     requires { ⌜ AllReady writes (now numbers) (now list) (now work) first e lost ⌝ }
-    ensures { λ r. ⌜ AllPassed writes first e lost r (now (numbers .entry)) (now (list .entry)) (now (work .entry)) (now (numbers .exit)) (now (list .exit)) (now (work .exit)) ⌝ }
+    ensures { λ r. ⌜ AllPassed writes first e lost r (now (numbers .entry)) (now (list .entry)) (now (work .entry)) (now (numbers .exit))
+        (now (list .exit)) (now (work .exit)) ⌝ }
 {
     work[0] = first as u32;
     let mut at = Walk { top: 1, lost: lost };

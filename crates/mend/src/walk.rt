@@ -15,7 +15,8 @@ pub fn walk(
     lost: usize,
 ) -> Span
     requires { ⌜ WalkReady writes (now numbers) (now list) (now work) first n lost ⌝ }
-    ensures { λ r. ⌜ WalkLeft writes first n lost r (now (numbers .entry)) (now (list .entry)) (now (work .entry)) (now (numbers .exit)) (now (list .exit)) (now (work .exit)) ⌝ }
+    ensures { λ r. ⌜ WalkLeft writes first n lost r (now (numbers .entry)) (now (list .entry)) (now (work .entry)) (now (numbers .exit))
+        (now (list .exit)) (now (work .exit)) ⌝ }
 {
     if n == 0 {
         return Span {

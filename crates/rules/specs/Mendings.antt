@@ -7,7 +7,7 @@ use Prim.Native.String.{String}
 use Rattle.mem.specs.Packed.{packed}
 use Rattle.rules.specs.Computing.{rules}
 use Rattle.rules.specs.Lines.{ascii}
-use Rattle.rules.specs.Mend.{Mending, traced, tracePlaces, isDoubled, isSpike, isAtFault, lowestFault, takesFlag, loseAfter, placeThen, loseTwo}
+use Rattle.rules.specs.Mend.{traced, tracePlaces, isDoubled, isSpike, isAtFault, lowestFault, takesFlag, loseAfter, placeThen, loseTwo}
 use Rattle.rules.specs.Mend.{mendAt, mendLoop, mended, numbersOf}
 use Rattle.rules.specs.MendCall.{MendLent, tracedFrom, mendedJob, keptLengths, keptCount, lostNumbers, tracedWords, keptWords, verticesIn, areWhole}
 use Rattle.rules.specs.MendCall.{lengthsAgree, longer, longest, isShortScratch, isListFull, mendOutcome, mendReplyOf, mendWords, scratchWiped}

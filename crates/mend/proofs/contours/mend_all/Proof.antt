@@ -14,7 +14,8 @@ use Rattle.mend.proofs.contours.mend_contour.Reads as mend-contour-read
 use Rattle.words.proofs.places.link_at.Reads as link-at-reads
 
 abbrev Inv-loop : tie.InvT-loop
-Inv-loop lengths₀ numbers₀ list₀ work₀ all₀ first₀ c₀ lengths numbers list work all first c = MendingAll lengths₀ numbers₀ list₀ work₀ lengths numbers list work all first c
+Inv-loop lengths₀ numbers₀ list₀ work₀ all₀ first₀ c₀ lengths numbers list work all first c =
+    MendingAll lengths₀ numbers₀ list₀ work₀ lengths numbers list work all first c
 
 abbrev μ-loop : tie.MeasureT-loop
 μ-loop lengths₀ numbers₀ list₀ work₀ all₀ first₀ c₀ lengths numbers list work all first c = length lengths₀ - c

@@ -1,5 +1,5 @@
 -- `mend::job::lengths_agree` meets its contract: the lengths are counted, and then summed. Assumes nothing.
-use mathlib.Core.Path.{sym, _∙_}
+use mathlib.Core.Path.{sym}
 use Rattle.mend.proofs.Calling.{too-many, so-many}
 use borrow.Author.Needs.{needs}
 use Rattle.mend.proofs.job.lengths_agree.Statement.{statement}

@@ -1,7 +1,6 @@
 -- `mend::job::longer_of` meets its contract: the greater of the two. Assumes nothing.
 use mathlib.Core.Path.{sym}
 use Rattle.mend.proofs.Longest.{longer-up, longer-down}
-use borrow.Author.Needs.{needs}
 use Rattle.mend.proofs.job.longer_of.Statement.{statement}
 use Rattle.mend.proofs.job.longer_of.Tie as tie
 use Rattle.mend.proofs.job.longer_of.Reads as reads

@@ -1,5 +1,4 @@
 -- `mend::lose::lose` meets its contract: a loss is written, or only counted. Assumes nothing.
-use mathlib.Core.Path.{_≡_}
 use Prim.Native.Nat.{_<_}
 use lib.ListN.{length}
 use Rattle.mend.proofs.Losing.{room-here, lost-written, lost-counted}

@@ -1,6 +1,6 @@
 -- `mend::lose::same_place` meets its contract: x and z are compared as the rules compare places. Assumes nothing.
 use mathlib.Core.Path.{refl}
-use Rattle.rules.specs.Plane.{vequal, onPlane}
+use Rattle.rules.specs.Plane.{vequal}
 use Rattle.rules.specs.Job.{vertexAt}
 use Rattle.laws.specs.MendNumbers.{samePlace}
 use borrow.Author.Needs.{needs}

@@ -34,7 +34,8 @@ lose-requires c κs =
 
 add-t21 : tie.Need-add-t21
 add-t21 c =
-    let start = c .before .before .before .before .before .before .before .before .before .before .before .before .before .before .before .before .before in
+    let at-second = c .before .before .before .before .before in
+    let start = at-second .before .before .before .before .before .before .before .before .before .before .before .before in
     record { fits = omega (arith, start .pre .few) }
 
 enum-told-2 : tie.Need-enum-told-2
@@ -71,7 +72,8 @@ lose-requires-2 c κs =
 
 add-lose : tie.Need-add-lose
 add-lose c =
-    let start = c .before .before .before .before .before .before .before .before .before .before .before .before .before .before .before .before .before .before .before .before .before in
+    let at-second = c .before .before .before .before .before .before .before .before .before in
+    let start = at-second .before .before .before .before .before .before .before .before .before .before .before .before in
     record { fits = omega (arith, start .pre .few) }
 
 lose-requires-3 : tie.Need-lose-requires-3
@@ -91,7 +93,8 @@ sub-t29 c = search needs
 
 add-t41 : tie.Need-add-t41
 add-t41 c =
-    let start = c .before .before .before .before .before .before .before .before .before .before .before .before .before .before .before .before .before .before .before .before .before .before .before .before .before .before in
+    let at-second = c .before .before .before .before .before .before .before .before .before .before .before .before .before .before in
+    let start = at-second .before .before .before .before .before .before .before .before .before .before .before .before in
     record { fits = omega (arith, start .pre .few) }
 
 enum-told-3 : tie.Need-enum-told-3

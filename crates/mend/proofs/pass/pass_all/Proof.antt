@@ -1,6 +1,5 @@
 -- `mend::pass::pass_all` meets its contract: the loop's invariant is `Going`: the points that are left give the whole from the state that stands. The
 -- measure is how many are left. Assumes nothing.
-use native.Mathlib.Omega.{arith}
 use lib.ListN.{length-set}
 use mathlib.Core.Path.{_∙_}
 use Prim.Native.Nat.{_-_}
