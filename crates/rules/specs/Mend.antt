@@ -123,26 +123,26 @@ MendTwice = (ps qs : List Traced) → tracePlaces qs ≡ tracePlaces (mended ps 
 
 -- the list k has some of the elements of l, in their order
 pub data InOrder {A : Type 0} : List A → List A → Type 0 where
-  none : InOrder [] []
-  kept : {x : A} {k l : List A} → InOrder k l → InOrder (x ∷ k) (x ∷ l)
-  left-out : {x : A} {k l : List A} → InOrder k l → InOrder k (x ∷ l)
+  ends : InOrder [] []
+  keeps : {x : A} {k l : List A} → InOrder k l → InOrder (x ∷ k) (x ∷ l)
+  skips : {x : A} {k l : List A} → InOrder k l → InOrder k (x ∷ l)
 
 -- what mending never changes of a point: all but its flag
-pub record Untouched : Type 0 where
+pub record Unflagged : Type 0 where
   pub number : ℕ
   pub vertex : Vertex
 
-abbrev pub untouched : Traced → Untouched
-untouched p = record { number = p .number; vertex = p .vertex }
+abbrev pub unflagged : Traced → Unflagged
+unflagged p = record { number = p .number; vertex = p .vertex }
 
-unfoldable pub numbersOf : List Traced → List ℕ
-numbersOf ps = map (λ p. p .number) ps
+unfoldable pub tracedNumbers : List Traced → List ℕ
+tracedNumbers ps = map (λ p. p .number) ps
 
 -- kept and lost together are the points that were handed in, each as often as it was (points that are traced have a number each, and so each is there once);
 -- and the kept ones are in their order, with their own x, y and z
 pub record MendParts (ps : List Traced) : Type 0 where
-  pub together : (k : ℕ) → count k (numbersOf (mended ps .points)) + count k (mended ps .lost) ≡ count k (numbersOf ps)
-  pub order : InOrder (map untouched (mended ps .points)) (map untouched ps)
+  pub together : (k : ℕ) → count k (tracedNumbers (mended ps .points)) + count k (mended ps .lost) ≡ count k (tracedNumbers ps)
+  pub order : InOrder (map unflagged (mended ps .points)) (map unflagged ps)
 
 abbrev pub MendParted : Type 0
 MendParted = (ps : List Traced) → MendParts ps

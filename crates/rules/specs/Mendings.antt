@@ -8,7 +8,7 @@ use Rattle.mem.specs.Packed.{packed}
 use Rattle.rules.specs.Computing.{rules}
 use Rattle.rules.specs.Lines.{ascii}
 use Rattle.rules.specs.Mend.{traced, tracePlaces, isDoubled, isSpike, isAtFault, lowestFault, takesFlag, loseAfter, placeThen, loseTwo}
-use Rattle.rules.specs.Mend.{mendAt, mendLoop, mended, numbersOf}
+use Rattle.rules.specs.Mend.{mendAt, mendLoop, mended, tracedNumbers}
 use Rattle.rules.specs.MendCall.{MendLent, tracedFrom, mendedJob, keptLengths, keptCount, lostNumbers, tracedWords, keptWords, verticesIn, areWhole}
 use Rattle.rules.specs.MendCall.{lengthsAgree, longer, longest, isShortScratch, isListFull, mendOutcome, mendReplyOf, mendWords, scratchWiped}
 use Rattle.rules.specs.MendCall.{mendedNumbers, mendExitOf, mendExit, oneContour}
@@ -51,7 +51,7 @@ pub record Seen : Type 0 where
   pub lost : List ℕ
 
 unfoldable pub seenOf : List ℕ → Seen
-seenOf ns = let m = mended (traced ns 0 (verticesIn ns)) in record { kept = numbersOf (m .points); flags = map (λ p. p .flag) (m .points); lost = m .lost }
+seenOf ns = let m = mended (traced ns 0 (verticesIn ns)) in record { kept = tracedNumbers (m .points); flags = map (λ p. p .flag) (m .points); lost = m .lost }
 
 -- how a call ends: the reply's three numbers, and what the buffers hold
 pub record MendEnded : Type 0 where
@@ -162,7 +162,7 @@ mendings =
 
 -- each row holds
 pub all-mend : AllMend mendings
-unfolding rules mendings word marked seenOf mendEnded MendHolds traced tracePlaces isDoubled isSpike isAtFault lowestFault takesFlag loseAfter placeThen loseTwo mendAt mendLoop mended numbersOf tracedFrom mendedJob keptLengths keptCount lostNumbers tracedWords keptWords verticesIn areWhole lengthsAgree longer longest isShortScratch isListFull mendOutcome mendReplyOf mendWords scratchWiped mendedNumbers mendExitOf mendExit oneContour mendedSheet headingText tracedLine contoursText sheetText mendText lostName contourLinesAbove vertexLineOf lostLine lostLines lostText
+unfolding rules mendings word marked seenOf mendEnded MendHolds traced tracePlaces isDoubled isSpike isAtFault lowestFault takesFlag loseAfter placeThen loseTwo mendAt mendLoop mended tracedNumbers tracedFrom mendedJob keptLengths keptCount lostNumbers tracedWords keptWords verticesIn areWhole lengthsAgree longer longest isShortScratch isListFull mendOutcome mendReplyOf mendWords scratchWiped mendedNumbers mendExitOf mendExit oneContour mendedSheet headingText tracedLine contoursText sheetText mendText lostName contourLinesAbove vertexLineOf lostLine lostLines lostText
 all-mend =
     refl & refl & refl & refl & refl & refl & refl & refl & refl & refl & refl & refl & refl & refl & refl & refl &
     refl & refl & refl & refl & refl & refl & refl & refl & refl & refl & refl & refl & refl & refl & refl & refl &
