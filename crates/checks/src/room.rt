@@ -4,12 +4,10 @@ ghost use Prim.Native.Nat.{_+_, _*_, _≤_};
 ghost use Rattle.rules.specs.Checks.{firstShort};
 ghost use Rattle.checks.specs.Answers.{Sized, leastOf};
 use rules::Found;
+use rules::VERTEX_STRIDE;
 
 // How many buffers are lent.
 pub const BUFFERS: usize = 7;
-
-// How many words a stored vertex has: x, y and z.
-pub const VERTEX_STRIDE: usize = 3;
 
 // How many words of the work buffer a build with this V uses.
 pub fn work_words(v: usize) -> usize

@@ -24,6 +24,7 @@ use Rattle.rules.specs.Lists.{prev, swapRemove, count}
 use Rattle.rules.specs.Mesh.{Polygon, noPolygon, polygonAt, sideStart, sideEnd}
 use Rattle.rules.specs.Removal.{holds, untouchedSide, sideInto, untouched, TakingOut, takeOne, takenOut, heldOnce, otherEnd, neighboursIn}
 use Rattle.rules.specs.Areas.{sumOf}
+use Rattle.laws.specs.Tests.{run-all}
 use Rattle.laws.specs.Lists.{All, none, more, all-append, all-at, all-of, sum-append, gather, map-append, last-split, swap-perm, swap-length}
 use Rattle.laws.specs.Ring.{next-in, next-out}
 use Rattle.laws.specs.Sides.{path, path-map, D-start, D-end}
@@ -237,13 +238,6 @@ unfolding takenOut
 took-out rem ps = take-out rem (length ps) (record { polygons = ps; sides = []; at = 0 }) (omega arith) none
 
 -- ---- the test that every polygon holds the vertex at most once
-pub run-all : (f : ℕ → Bool) (m i : ℕ) → run true _&&_ f i m ≡ true → (j : ℕ) → i ≤ j → j < i + m → f j ≡ true
-unfolding run
-run-all f zero i e j h k = absurd (omega arith)
-run-all f (suc m) i e j h k = ⊎-elim
-    (λ (q : i < j). run-all f m (suc i) (and-right (f i) (run true _&&_ f (suc i) m) e) j q (omega arith))
-    (λ (q : j ≤ i). let z : j ≡ i = omega arith in rw z (and-left (f i) (run true _&&_ f (suc i) m) e)) (lt-or-le i j)
-
 pub held-once : (rem : ℕ) (ps : List Polygon) → heldOnce rem ps ≡ true → All (λ p. holds rem p ≤ 1) ps
 unfolding heldOnce over
 held-once rem ps e = all-of ps noPolygon (λ i h. leb-true (holds rem (polygonAt ps i)) 1 (run-all (λ i. leb (holds rem (polygonAt ps i)) 1) (length ps - 0) 0 e i (omega arith) (omega arith)))

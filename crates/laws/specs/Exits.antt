@@ -34,7 +34,7 @@ use Rattle.laws.specs.Reached.{built-links, built-passed}
 -- ---- lists
 
 -- a list that is what it holds at each place
-tab-list : {A : Type 0} (f : ℕ → A) (l : List A) (d : A) → ((i : ℕ) → i < length l → f i ≡ getD l i d) → tab f (length l) ≡ l
+pub tab-list : {A : Type 0} (f : ℕ → A) (l : List A) (d : A) → ((i : ℕ) → i < length l → f i ≡ getD l i d) → tab f (length l) ≡ l
 tab-list f l d h = tab-cong f (λ k. getD l k d) (length l) h ∙ tab-take l (length l) d (omega arith) ∙ take-all (length l) l (omega arith)
 
 get-written : (w xs : List ℕ) (i : ℕ) → i < length xs → length xs ≤ length w → getD (splice w 0 xs) i 0 ≡ getD xs i 0
@@ -47,7 +47,7 @@ block-written enc k Fit d sized w bs all room i h = rw (zero-add (i * k)) at (pa
 
 -- ---- a polygon's words
 
-length-padded : (n : ℕ) (cs : List ℕ) → length cs ≤ n → length (padded n cs) ≡ n
+pub length-padded : (n : ℕ) (cs : List ℕ) → length cs ≤ n → length (padded n cs) ≡ n
 unfolding padded
 length-padded n cs h = length-append cs (replicate (n - length cs) none) ∙ ap (λ (k : ℕ). length cs + k) (length-replicate (n - length cs) none) ∙ omega arith
 
@@ -63,11 +63,11 @@ up-to-none k (Lists.more {a = c} {l = cs} h a) =
     let e : eqb c none ≡ false = ne-eqb c none (λ (q : c ≡ none). omega arith) in
     rw e (ap (λ (r : List ℕ). c ∷ r) (up-to-none k a))
 
-up-to-padded : (n : ℕ) {cs : List ℕ} → All (Below none) cs → upToNone (padded n cs) ≡ cs
+pub up-to-padded : (n : ℕ) {cs : List ℕ} → All (Below none) cs → upToNone (padded n cs) ≡ cs
 unfolding padded
 up-to-padded n {cs} a = up-to-none (n - length cs) a
 
-take-padded : (n m : ℕ) (cs : List ℕ) → length cs ≡ m → take m (padded n cs) ≡ cs
+pub take-padded : (n m : ℕ) (cs : List ℕ) → length cs ≡ m → take m (padded n cs) ≡ cs
 unfolding padded
 take-padded n m cs e = take-at cs (replicate (n - length cs) none) m e
 
@@ -162,7 +162,7 @@ module _ (j : Job) (b : Lent) (m : Mesh) (ls : List (List ℕ)) (passed : Passed
 
 -- ---- the whole
 
-exits-built : (j : Job) (b : Lent) (m : Mesh) (ls : List (List ℕ)) (log : List Removal) → outcome j b ≡ built m ls log → exits j b ≡ filled j b m ls
+pub exits-built : (j : Job) (b : Lent) (m : Mesh) (ls : List (List ℕ)) (log : List Removal) → outcome j b ≡ built m ls log → exits j b ≡ filled j b m ls
 unfolding exits exitOf
 exits-built j b m ls log e = ap (exitOf j b) e
 

@@ -50,11 +50,22 @@ pub mod MendEnded
 pub mod MendDry
 pub mod MendWithin
 pub mod MendWalked
--- the statements of `rules`: Areas, Fuel, Widths, Exits, Sentences, Distance, Boxes, Outlines
+-- request 7: tests; a mesh that is handed in, and its words; links are mutual
+pub mod Tests
+pub mod Handed
+pub mod HandedWords
+pub mod EdgeSides
+pub mod EdgeJoins
+pub mod EdgeLinks
+pub mod Mutual
+-- the statements of `rules`: Areas, Fuel, Widths, Exits, Checker, Sentences, Distance, Boxes, Outlines
 pub mod Laws
 pub mod Fuel
 pub mod Widths
 pub mod Exits
+pub mod Checker
+pub mod Written
+pub mod Own
 pub mod Sentences
 pub mod Distance
 pub mod Boxes

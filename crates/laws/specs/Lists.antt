@@ -125,6 +125,12 @@ module _ {A B : Type 0} where
   getD-map-in f (a ∷ l) zero d e h = refl
   getD-map-in f (a ∷ l) (suc i) d e h = getD-map-in f l i d e (omega arith)
 
+-- what stands past the end does not matter within the list
+pub getD-any : {A : Type 0} (l : List A) (i : ℕ) (d e : A) → i < length l → getD l i d ≡ getD l i e
+getD-any [] i d e h = absurd (omega arith)
+getD-any (a ∷ l) zero d e h = refl
+getD-any (a ∷ l) (suc i) d e h = getD-any l i d e (omega arith)
+
 -- ---- sums: `sumOf f l` of integers is the rules'; `total f l` of naturals
 module _ {A : Type 0} where
   unfoldable pub total : (A → ℕ) → List A → ℕ

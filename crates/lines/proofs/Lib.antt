@@ -2,7 +2,8 @@
 pub mod Scanning
 -- the loop over the digits of a cell
 pub mod Decimals
--- the loop over the cells of a line
+-- the cells of a line: they are counted, and read as numbers
+pub mod Counting
 pub mod Numbering
 -- the line at a place
 pub mod LineAt
@@ -10,3 +11,5 @@ pub mod LineAt
 pub mod Places
 -- the sign taken off a number
 pub mod Signs
+-- a cell as a whole number
+pub mod Wholes

@@ -21,7 +21,7 @@ above-is (suc k) = +ℤ-one (negsuc (suc k))
 flipped-is : (k : ℕ) → pos 0 -ℤ negℤ (pos k) ≡ pos k
 flipped-is k = +ℤ-idl (negℤ (negℤ (pos k))) ∙ negℤ-negℤ (pos k)
 
-neg-fits : (k : ℕ) → SFits w64 (pos k) → SFits w64 (negℤ (pos k))
+pub neg-fits : (k : ℕ) → SFits w64 (pos k) → SFits w64 (negℤ (pos k))
 neg-fits zero h = h
 neg-fits (suc k) h = record { sfits = omega (arith, h .sfits) }
 

@@ -1,12 +1,52 @@
 -- What the readers of lines answer, case by case. Definitions only.
-use mathlib.Core.Bool.{true, false}
-use mathlib.Core.List.{List, []}
-use Prim.Native.Nat.{ℕ, _+_}
-use lib.ListN.{drop, getD}
-use Rattle.rules.specs.Lines.{lf, linesOf, Numbers, numbers, malformed, numbersOf}
+use mathlib.Core.Path.{_≡_}
+use mathlib.Core.Bool.{Bool, true, false}
+use mathlib.Core.List.{List, [], _∷_, _++_}
+use Prim.Native.Nat.{ℕ, _+_, _-_, _≤_, _<_}
+use lib.ListN.{length, take, drop, getD}
+use Rattle.mem.specs.Slice.{splice}
+use Rattle.rules.specs.Lines.{tabByte, lf, isSameText, parts, Line, linesOf, decimalIn, Numbers, numbers, malformed, numbersOf}
+use Rattle.rules.specs.declared.Decimal.the-variants.{Value, Malformed}
 use Rattle.lines.specs.declared.numbers.Four.{Four}
 use Rattle.lines.specs.declared.line.LineRead.{LineRead}
 use Rattle.lines.specs.Scan.{placeOf}
+
+-- ---- a line of numbers
+
+-- whether there are numbers
+unfoldable pub areNumbers : Numbers → Bool
+areNumbers (numbers ns) = true
+areNumbers malformed = false
+
+-- the numbers of the cells up to the first bad one: all of them, if they are `numbersIn`
+unfoldable pub goodIn : ℕ → List ℕ → Line → List ℕ
+goodIn least [] cs = []
+goodIn least (m ∷ ms) [] = []
+goodIn least (m ∷ ms) (c ∷ cs) = elim (decimalIn least m c) [
+  | Value n ↦ n ∷ goodIn least ms cs
+  | Malformed ↦ []
+]
+
+-- the same of a line, whose first cell has to be this name
+unfoldable pub goodOf : List ℕ → ℕ → List ℕ → Line → List ℕ
+goodOf name least mosts [] = []
+goodOf name least mosts (c ∷ cs) = elim (isSameText c name) [
+  | true ↦ goodIn least mosts cs
+  | false ↦ []
+]
+
+-- a line was read: whether it is good, and its numbers at the beginning of the words v, which became w
+pub record RowRead (name : List ℕ) (least : ℕ) (mosts : List ℕ) (l : Line) (r : Bool) (v w : List ℕ) : Type 0 where
+  pub good : r ≡ areNumbers (numbersOf name least mosts l)
+  pub put : w ≡ splice v 0 (goodOf name least mosts l)
+
+-- the last cell of a line begins at p
+pub record LastCell (line : List ℕ) (p : ℕ) : Type 0 where
+  pub within : p ≤ length line
+  pub alone : p ≡ 0 → parts tabByte line ≡ line ∷ []
+  pub behind : 0 < p → parts tabByte line ≡ parts tabByte (take (p - 1) line) ++ (drop p line ∷ [])
+
+-- ---- a line of at most four numbers
 
 -- the most numbers a line may have
 abbrev pub mostNumbers : ℕ

@@ -1,14 +1,16 @@
 -- Where a byte stands in a text, and the parts, lines and cells that it makes. Assumes nothing.
--- Key: `placeOf`: the first place of a byte; `part-next`, `part-last`: the first part of a text from a place on, and what is left of the text behind it.
-use mathlib.Core.Path.{_≡_, refl, ap, _∙_}
+-- Key: `placeOf`: the first place of a byte; `part-next`, `part-last`: the first part of a text from a place on, and what is left of the text behind it;
+-- `parts-cut`: the parts on both sides of such a byte.
+use mathlib.Core.Path.{_≡_, refl, sym, ap, _∙_}
 use mathlib.Core.Bool.{Bool, true, false}
-use mathlib.Core.List.{List, [], _∷_}
+use mathlib.Core.List.{List, [], _∷_, _++_}
 use Prim.Native.Nat.{ℕ, suc, _+_, _≤_, _<_}
 use native.Mathlib.Numerals.{add-one}
 use native.Mathlib.Omega.{arith}
 use lib.Dec.{eqb}
-use lib.ListN.{length, take, drop, length-drop}
-use lib.Seq.{drop-drop}
+use lib.ListN.{length, take, drop, getD, length-drop}
+use lib.Seq.{drop-drop, getD-drop, split-at}
+use borrow.Author.Tests.{eqb-true, eq-eqb}
 use Rattle.mem.specs.Slice.{view}
 use Rattle.rules.specs.Lines.{parts, onFirst}
 
@@ -81,3 +83,35 @@ module _ (b : ℕ) (text : List ℕ) (p : ℕ) where
 
   pub part-last : length text ≤ p + placeOf b (drop p text) → parts b (drop p text) ≡ drop p text ∷ []
   part-last h = parts-end b (drop p text) (rw length-drop (omega arith))
+
+-- ---- the parts on both sides of a byte that parts
+on-append : (c : ℕ) (ps qs : List (List ℕ)) → 0 < length ps → onFirst c (ps ++ qs) ≡ onFirst c ps ++ qs
+unfolding onFirst
+on-append c [] qs h = absurd (omega arith)
+on-append c (p ∷ ps) qs h = refl
+
+parts-both : (b : ℕ) (xs ys : List ℕ) → parts b (xs ++ (b ∷ ys)) ≡ parts b xs ++ parts b ys
+unfolding parts
+parts-both b [] ys = parts-here b b ys (eq-eqb b b refl)
+parts-both b (c ∷ xs) ys = (elim (eqb c b) as (λ (t : Bool). eqb c b ≡ t → parts b (c ∷ (xs ++ (b ∷ ys))) ≡ parts b (c ∷ xs) ++ parts b ys) [
+  | true ↦ λ e. parts-here b c (xs ++ (b ∷ ys)) e ∙ rw (parts-both b xs ys, parts-here b c xs e) refl
+  | false ↦ λ e.
+      parts-later b c (xs ++ (b ∷ ys)) e
+      ∙ rw (parts-both b xs ys, parts-later b c xs e) (on-append c (parts b xs) (parts b ys) (parts-some b xs))
+]) refl
+
+place-is : (b : ℕ) (l : List ℕ) → placeOf b l < length l → getD l (placeOf b l) 0 ≡ b
+place-is b [] h = absurd (omega arith)
+place-is b (c ∷ cs) h = (elim (eqb c b) as (λ (t : Bool). eqb c b ≡ t → getD (c ∷ cs) (placeOf b (c ∷ cs)) 0 ≡ b) [
+  | true ↦ λ e. rw (place-here b c cs e) (eqb-true c b e)
+  | false ↦ λ e.
+      let q : placeOf b (c ∷ cs) ≡ suc (placeOf b cs) = place-later b c cs e ∙ add-one (placeOf b cs) in
+      rw q (place-is b cs (omega arith))
+]) refl
+
+pub parts-cut : (b : ℕ) (text : List ℕ) (p q : ℕ) → q ≡ p + placeOf b (drop p text) → q < length text
+    → parts b text ≡ parts b (take q text) ++ parts b (drop (q + 1) text)
+parts-cut b text p q e h =
+    let k : placeOf b (drop p text) < length (drop p text) = rw length-drop (omega arith) in
+    let x : getD text q 0 ≡ b = rw e (sym (getD-drop p text (placeOf b (drop p text)) 0) ∙ place-is b (drop p text) k) in
+    ap (parts b) (split-at text q 0 h) ∙ rw (x, add-one q) (parts-both b (take q text) (drop (suc q) text))

@@ -1,6 +1,6 @@
 -- What is known of a line that was read: which line of the text it is, its numbers, and what its reader's answer tells. Assumes nothing.
 -- Key: `line-at`, `line-open`, `line-missing`: the line at a place; `taken`: a line with numbers is the first of the lines from its place on; `numbers-long`,
--- `numbers-most`: its numbers keep their limits; `good-read`, `bad-read`: all of it, from the answer of `read_line`.
+-- `numbers-most`: its numbers keep their limits; `row-good`, `row-bad`: all of it, from the answer of `read_row`; `good-read`, `bad-read`: from that of `read_line`.
 use mathlib.Core.Path.{_≡_, refl, sym, ap, _∙_}
 use mathlib.Core.Bool.{Bool, true, false, _&&_, cond, true≢false}
 use mathlib.Core.List.{List, [], _∷_}
@@ -11,14 +11,14 @@ use lib.Dec.{leb}
 use lib.ListN.{length, drop, getD, length-drop, drop-of-length-le}
 use borrow.Author.Tests.{leb-true}
 use Rattle.ints.specs.Bools.{and-left, and-right}
-use Rattle.mem.specs.Slice.{view}
+use Rattle.mem.specs.Slice.{view, splice}
 use Rattle.mem.specs.Cases.{lt-or-le}
 use Rattle.rules.specs.Lines.{tabByte, lf, isEmpty, isSameText, parts, Line, wholeLines, linesOf, isDecimal, valueFrom, decimalIn, Numbers, numbers, malformed, withNumber, numbersIn, numbersOf}
 use Rattle.rules.specs.declared.Decimal.{Decimal}
 use Rattle.rules.specs.declared.Decimal.the-variants.{Value, Malformed}
 use Rattle.lines.specs.declared.line.LineRead.{LineRead}
 use Rattle.lines.specs.Scan.{placeOf, part-next, part-last, parts-some}
-use Rattle.lines.specs.Read.{lineEnd, lineRead, numbersAt}
+use Rattle.lines.specs.Read.{areNumbers, goodIn, goodOf, RowRead, lineEnd, lineRead, numbersAt}
 
 -- ---- the line at a place of a text
 
@@ -104,7 +104,7 @@ pub record Limited (least : ℕ) (mosts ns : List ℕ) : Type 0 where
   pub long : length ns ≡ length mosts
   pub most : (i : ℕ) → i < length mosts → (least ≤ getD ns i 0) × (getD ns i 0 ≤ getD mosts i 0)
 
-value-in : (least most n : ℕ) (cell : List ℕ) → decimalIn least most cell ≡ Value n → (least ≤ n) × (n ≤ most)
+pub value-in : (least most n : ℕ) (cell : List ℕ) → decimalIn least most cell ≡ Value n → (least ≤ n) × (n ≤ most)
 unfolding decimalIn
 value-in least most n cell e = let v = valueFrom 0 cell in
     (elim (isDecimal cell && (leb least v && leb v most))
@@ -155,7 +155,63 @@ module _ (name : List ℕ) (least : ℕ) (mosts : List ℕ) (l : Line) (ns : Lis
   pub numbers-most : (i : ℕ) → i < length mosts → (least ≤ getD ns i 0) × (getD ns i 0 ≤ getD mosts i 0)
   numbers-most = limited name least mosts l ns e .most
 
+-- the numbers of a line are those up to its first bad cell, of which there is none
+good-next : (n : ℕ) (gs ns : List ℕ) (r : Numbers) → ((ks : List ℕ) → r ≡ numbers ks → gs ≡ ks) → withNumber n r ≡ numbers ns → n ∷ gs ≡ ns
+unfolding withNumber
+good-next n gs ns (numbers ks) f e = let q : (n ∷ ks) ≡ ns = cc in rw (f ks refl) q
+good-next n gs ns malformed f e = let z : _≡_ {A = ℕ} 0 1 = cc in absurd (omega arith)
+
+good-in : (least : ℕ) (mosts : List ℕ) (cells : Line) (ns : List ℕ) → numbersIn least mosts cells ≡ numbers ns → goodIn least mosts cells ≡ ns
+unfolding numbersIn goodIn
+good-in least [] [] ns e = cc
+good-in least [] (c ∷ cs) ns e = let z : _≡_ {A = ℕ} 0 1 = cc in absurd (omega arith)
+good-in least (m ∷ ms) [] ns e = let z : _≡_ {A = ℕ} 0 1 = cc in absurd (omega arith)
+good-in least (m ∷ ms) (c ∷ cs) ns e = (elim (decimalIn least m c) as (λ (d : Decimal). (elim d [ Value n ↦ withNumber n (numbersIn least ms cs) | Malformed ↦ malformed ]) ≡ numbers ns
+    → (elim d [ Value n ↦ n ∷ goodIn least ms cs | Malformed ↦ [] ]) ≡ ns) [
+      | Value n ↦ λ f. good-next n (goodIn least ms cs) ns (numbersIn least ms cs) (λ ks g. good-in least ms cs ks g) f
+      | Malformed ↦ λ f. let z : _≡_ {A = ℕ} 0 1 = cc in absurd (omega arith)
+    ]) e
+
+pub good-all : (name : List ℕ) (least : ℕ) (mosts : List ℕ) (l : Line) (ns : List ℕ) → numbersOf name least mosts l ≡ numbers ns → goodOf name least mosts l ≡ ns
+unfolding numbersOf goodOf
+good-all name least mosts [] ns e = let z : _≡_ {A = ℕ} 0 1 = cc in absurd (omega arith)
+good-all name least mosts (c ∷ cs) ns e = (elim (isSameText c name) as (λ (t : Bool). elim t [ true ↦ numbersIn least mosts cs | false ↦ malformed ] ≡ numbers ns
+    → elim t [ true ↦ goodIn least mosts cs | false ↦ [] ] ≡ ns) [
+      | true ↦ good-in least mosts cs ns
+      | false ↦ λ f. let z : _≡_ {A = ℕ} 0 1 = cc in absurd (omega arith)
+    ]) e
+
 -- ---- what a reader's answer says of the line
+
+-- a line of numbers: a good one's stand at the beginning of the words, and a bad one has none
+pub record RowGood (name : List ℕ) (least : ℕ) (mosts : List ℕ) (l : Line) (v w : List ℕ) : Type 0 where
+  pub ns : List ℕ
+  pub says : numbersOf name least mosts l ≡ numbers ns
+  pub limits : Limited least mosts ns
+  pub put : w ≡ splice v 0 ns
+
+module _ {name : List ℕ} {least : ℕ} {mosts : List ℕ} {l : Line} {r : Bool} {v w : List ℕ} (x : RowRead name least mosts l r v w) where
+  row-of : (n : Numbers) → numbersOf name least mosts l ≡ n → r ≡ areNumbers n → r ≡ true → RowGood name least mosts l v w
+  unfolding areNumbers
+  row-of (numbers ns) e q g =
+      record {
+        ns = ns;
+        says = e;
+        limits = limited name least mosts l ns e;
+        put = x .put ∙ ap (splice v 0) (good-all name least mosts l ns e);
+      }
+  row-of malformed e q g = absurd (true≢false (sym g ∙ q))
+
+  none-of : (n : Numbers) → numbersOf name least mosts l ≡ n → r ≡ areNumbers n → r ≡ false → numbersOf name least mosts l ≡ malformed
+  unfolding areNumbers
+  none-of (numbers ns) e q g = absurd (true≢false (sym q ∙ g))
+  none-of malformed e q g = e
+
+  pub row-good : r ≡ true → RowGood name least mosts l v w
+  row-good = row-of (numbersOf name least mosts l) refl (x .good)
+
+  pub row-bad : r ≡ false → numbersOf name least mosts l ≡ malformed
+  row-bad = none-of (numbersOf name least mosts l) refl (x .good)
 
 -- a line that was good: its numbers, what is left of the text behind it, and how the answer tells
 pub record Good (text : List ℕ) (p : ℕ) (name : List ℕ) (least : ℕ) (mosts : List ℕ) (r : LineRead) : Type 0 where

@@ -3,7 +3,7 @@ ghost use mathlib.Core.Path.{_≡_};
 ghost use Prim.Native.Nat.{_≤_};
 ghost use lib.ListN.{length};
 ghost use Rattle.rules.specs.Lines.{tabByte, parts, malformed, numbersOf};
-ghost use Rattle.lines.specs.Read.{mostNumbers, fourOf};
+ghost use Rattle.lines.specs.Read.{mostNumbers, fourOf, RowRead};
 use crate::decimal::read_decimal;
 use crate::scan::find;
 use crate::scan::is_same_text;
@@ -30,24 +30,25 @@ fn no_numbers() -> Four
     }
 }
 
-// The numbers of a line that has this name and then a decimal for each of `mosts`, from `least` to that limit.
-pub fn read_numbers(line: &[u8], name: &[u8], least: u64, mosts: &[u64]) -> Four
-    requires { ⌜ length (now mosts) ≤ mostNumbers ⌝ }
-    ensures { λ r. ⌜ r ≡ fourOf (numbersOf (now (name .entry)) least (now (mosts .entry)) (parts tabByte (now (line .entry)))) ⌝ }
+// Whether a line has this name and then a decimal for each of `mosts`, from `least` to that limit. Its numbers, up to the
+// first bad cell, go to the beginning of `values`.
+pub fn read_row(line: &[u8], name: &[u8], least: u64, mosts: &[u64], values: &mut [u64]) -> bool
+    requires { ⌜ length (now mosts) ≤ length (now values) ⌝ }
+    ensures { λ r. ⌜ RowRead (now (name .entry)) least (now (mosts .entry)) (parts tabByte (now (line .entry))) r
+        (now (values .entry)) (now (values .exit)) ⌝ }
 {
     let mut at = find(line, 0, b'\t');
     if is_same_text(&line[..at], name) {
-        let mut values = [0u64; 4];
         let mut i = 0;
         while i < mosts.len() {
             if at >= line.len() {
-                return no_numbers();
+                return false;
             }
             let from = at + 1;
             at = find(line, from, b'\t');
             match read_decimal(&line[from..at], least, mosts[i]) {
                 Decimal::Malformed => {
-                    return no_numbers();
+                    return false;
                 }
                 Decimal::Value(v) => {
                     values[i] = v;
@@ -55,15 +56,25 @@ pub fn read_numbers(line: &[u8], name: &[u8], least: u64, mosts: &[u64]) -> Four
             }
             i += 1;
         }
-        if at == line.len() {
-            return Four {
-                good: true,
-                a: values[0],
-                b: values[1],
-                c: values[2],
-                d: values[3],
-            };
-        }
+        return at == line.len();
+    }
+    false
+}
+
+// The numbers of a line that has this name and then a decimal for each of `mosts`, from `least` to that limit.
+pub fn read_numbers(line: &[u8], name: &[u8], least: u64, mosts: &[u64]) -> Four
+    requires { ⌜ length (now mosts) ≤ mostNumbers ⌝ }
+    ensures { λ r. ⌜ r ≡ fourOf (numbersOf (now (name .entry)) least (now (mosts .entry)) (parts tabByte (now (line .entry)))) ⌝ }
+{
+    let mut values = [0u64; 4];
+    if read_row(line, name, least, mosts, &mut values) {
+        return Four {
+            good: true,
+            a: values[0],
+            b: values[1],
+            c: values[2],
+            d: values[3],
+        };
     }
     no_numbers()
 }

@@ -6,7 +6,7 @@ use Prim.Native.Nat.{ℕ, _*_}
 use native.Mathlib.Omega.{arith}
 use lib.ListN.{length, take}
 use Rattle.rules.specs.Job.{jobStride}
-use Rattle.rules.specs.Sheet.{Read}
+use Rattle.rules.specs.Sheet.{Sheet, Read, readSheet}
 use Rattle.rules.specs.MendSheet.{mendedSheet, sheetText, mendText, lostLines, lostText}
 use Rattle.sheet.specs.declared.heading.Heading.{Heading}
 use Rattle.sheet.specs.Parts.{whole-part, whole-numbers}
@@ -16,7 +16,7 @@ use Rattle.sheet.specs.Texts.{taken-text}
 use Rattle.mendsheet.specs.Print.{lostTextOf}
 use Rattle.mendsheet.specs.Mended.{FromSheet, mendedText, MendReady, lossesOf, LossesReady}
 
-module _ {w : Read} {x : Heading} {c v : ℕ} {ls rs cs ns : List ℕ} (a : TakenAs w x c v ls rs cs ns) (l : ListsReady ls rs cs ns) where
+module _ {w : Read Sheet} {x : Heading} {c v : ℕ} {ls rs cs ns : List ℕ} (a : TakenAs w x c v ls rs cs ns) (l : ListsReady ls rs cs ns) where
   from-sheet : FromSheet (take c ls) (take (v * jobStride) ns)
   from-sheet =
       let p = whole-part c ls (a .contours) (l .lengths) in
@@ -39,8 +39,8 @@ module _ {w : Read} {x : Heading} {c v : ℕ} {ls rs cs ns : List ℕ} (a : Take
 module _ (t : List ℕ) {x : Heading} {c v : ℕ} {ls rs cs ns : List ℕ} (a : TakenAs (readBytes t) x c v ls rs cs ns) where
   pub mend-text : mendedText x (take c ls) (take c rs) (take c cs) (take (v * jobStride) ns) ≡ mendText t
   unfolding mendedText mendText
-  mend-text = sym (taken-text (λ s. sheetText (mendedSheet s)) t a)
+  mend-text = sym (taken-text readSheet (λ s. sheetText (mendedSheet s)) t (a .same))
 
   pub lost-text : lossesOf (take c ls) (take c ls) (take (v * jobStride) ns) ≡ lostText t
   unfolding lossesOf lostTextOf lostText lostLines withLists
-  lost-text = sym (taken-text (λ s. lostLines (s .job)) t a)
+  lost-text = sym (taken-text readSheet (λ s. lostLines (s .job)) t (a .same))

@@ -6,9 +6,7 @@ ghost use Rattle.rules.specs.Exits.{vertexWords};
 ghost use Rattle.records.specs.Layout.{verticesAt};
 ghost use Rattle.outputs.specs.Ready.{VerticesReady};
 use records::vertex::VERTEX_SIZE;
-
-// How many words a stored vertex has.
-pub const VERTEX_STRIDE: usize = 3;
+use rules::VERTEX_STRIDE;
 
 // The nv vertices at vo go to the beginning of out.
 pub fn copy_vertices(work: &[u32], vo: usize, nv: usize, out: &mut [u16])

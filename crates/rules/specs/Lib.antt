@@ -36,6 +36,10 @@ pub mod Distance
 pub mod Lines
 pub mod Sheet
 pub mod MendSheet
+-- request 7: a mesh that is handed in, with refusals 40 to 42; the checker; and a printed mesh that is checked
+pub mod Handed
+pub mod Checker
+pub mod CheckSheet
 -- what is proved of the rules: demand 3, that loops go to their end, that what is written fits, and that each text is its sentence
 pub mod Areas
 pub mod Fuel
@@ -48,3 +52,4 @@ pub mod Outlines
 pub mod Computing
 pub mod Examples
 pub mod Mendings
+pub mod Checkings

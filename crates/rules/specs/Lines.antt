@@ -6,10 +6,12 @@ use Prim.Native.Char.{code}
 use Prim.Native.String.{String}
 use Prim.Native.String as String
 use lib.Dec.{eqb, leb, ltb}
-use lib.IntN.{ℤ, pos, negsuc}
+use lib.IntN.{ℤ, pos, negsuc, negℤ}
 use Rattle.mem.specs.Packed.{packed}
 use Rattle.rules.specs.declared.Decimal.{Decimal}
 use Rattle.rules.specs.declared.Decimal.the-variants.{Value, Malformed}
+use Rattle.rules.specs.declared.Signed.{Signed}
+use Rattle.rules.specs.declared.Signed.the-variants.{Whole, NotWhole}
 
 -- the bytes of a quoted text
 unfoldable pub ascii : String → List ℕ
@@ -87,6 +89,18 @@ unfoldable pub decimalIn : ℕ → ℕ → List ℕ → Decimal
 decimalIn least most cell =
     let v = valueFrom 0 cell in
     cond (isDecimal cell && (leb least v && leb v most)) (Value v) Malformed
+
+-- the whole number that a cell says: a decimal up to `most`, or `-` and one that is not 0
+unfoldable pub wholeFrom : (ℕ → ℤ) → Decimal → Signed
+wholeFrom sign (Value n) = Whole (sign n)
+wholeFrom sign Malformed = NotWhole
+
+unfoldable pub signedIn : ℕ → List ℕ → Signed
+signedIn most [] = NotWhole
+signedIn most (c ∷ cs) = elim (eqb c 45) [
+  | true ↦ wholeFrom (λ n. negℤ (pos n)) (decimalIn 1 most cs)
+  | false ↦ wholeFrom pos (decimalIn 0 most (c ∷ cs))
+]
 
 -- ---- lines of numbers that are read
 

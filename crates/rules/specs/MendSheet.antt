@@ -10,7 +10,7 @@ use Rattle.mem.specs.Slice.{view}
 use Rattle.rules.specs.Lines.{ascii, numberLine}
 use Rattle.rules.specs.Job.{Job, jobStride}
 use Rattle.rules.specs.MendCall.{mendedJob, keptLengths, keptWords, lostNumbers}
-use Rattle.rules.specs.Sheet.{Sheet, headingLines, cellName, nvpName, gridName, contourName, vName, unitLine, textBy}
+use Rattle.rules.specs.Sheet.{Sheet, headingLines, cellName, nvpName, gridName, contourName, vName, unitLine, readSheet, textBy}
 
 -- ---- the mended sheet: "heading lines as they were, each contour line with its new length, the kept `v` lines"
 
@@ -56,7 +56,7 @@ sheetText s = headingText s ++ contoursText (length (s .job .lengths)) (s .job) 
 
 -- what `./mesh --mend` prints
 unfoldable pub mendText : List ℕ → List ℕ
-mendText bytes = textBy (λ s. sheetText (mendedSheet s)) bytes
+mendText bytes = textBy readSheet (λ s. sheetText (mendedSheet s)) bytes
 
 -- ---- the lost points: "a line for each removal, in order, `lost→NUMBER→LINE`: the vertex's number in the sheet from 0 over all contours, and its line from 1"
 
@@ -86,4 +86,4 @@ lostLines j =
 
 -- what `./mesh --lost` prints
 unfoldable pub lostText : List ℕ → List ℕ
-lostText bytes = textBy (λ s. lostLines (s .job)) bytes
+lostText bytes = textBy readSheet (λ s. lostLines (s .job)) bytes

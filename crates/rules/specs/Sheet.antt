@@ -3,8 +3,6 @@ use mathlib.Core.Bool.{Bool, true, false, _||_, cond}
 use mathlib.Core.List.{List, [], _∷_, _++_}
 use Prim.Native.Nat.{ℕ, zero, suc, _+_}
 use lib.Dec.{ltb}
-use lib.Ieee as Ieee
-use lib.Ieee.{Float, binary32}
 use lib.ListN.{length, drop, getD}
 use Rattle.mem.specs.Loops.{over}
 use Rattle.rules.specs.Lines.{ascii, tabByte, lf, isSameText, Line, linesOf, Numbers, numbers, malformed, numbersOf, cell, signedCell, numberLine}
@@ -16,10 +14,7 @@ use Rattle.rules.specs.Replies.{refusalNumber, refusalSecond}
 use Rattle.rules.specs.Build.{Outcome, refused, built, afterCheck}
 use Rattle.rules.specs.Exits.{vertexWords, Stored}
 use Rattle.rules.specs.Areas.{storedArea}
-use Rattle.rules.specs.Units.{sizeIn, thousandths}
 use Rattle.rules.specs.declared.Vertex.{Vertex}
-use Rattle.rules.specs.declared.Vec3.{Vec3}
-use Rattle.rules.specs.declared.Header.{Header}
 
 -- ---- the words of a sheet, and its limits
 
@@ -98,22 +93,27 @@ pub record Sheet : Type 0 where
   pub height : ℕ
   pub job : Job
 
--- a sheet, or a refusal of these two numbers: "`refused→number→line`"
-pub data Read : Type 0 where
-  taken : Sheet → Read
-  bad : ℕ → ℕ → Read
+-- what was asked for, a sheet say, or a refusal of these two numbers: "`refused→number→line`"
+pub data Read (A : Type 0) : Type 0 where
+  taken : A → Read A
+  bad : ℕ → ℕ → Read A
+
+-- what was read is gone on with, a refusal stays
+unfoldable pub andThen : {A B : Type 0} → Read A → (A → Read B) → Read B
+andThen (taken a) f = f a
+andThen (bad n k) f = bad n k
 
 -- line k, from 0. A missing one is a line without cells, which no reader takes
 unfoldable pub lineAt : List Line → ℕ → Line
 lineAt ls k = getD ls k []
 
 -- "22 (a later one is malformed, misplaced or missing)": line k, from 1, has to have numbers, with which it goes on
-unfoldable pub need : ℕ → Numbers → (List ℕ → Read) → Read
+unfoldable pub need : {A : Type 0} → ℕ → Numbers → (List ℕ → Read A) → Read A
 need k malformed f = bad 22 k
 need k (numbers ns) f = f ns
 
 -- "21 (the first isn't a whole `unit` line with mm or in)": a unit has to be there, and it goes on with whether it is inches
-unfoldable pub needUnit : Line → (Bool → Read) → Read
+unfoldable pub needUnit : {A : Type 0} → Line → (Bool → Read A) → Read A
 needUnit (a ∷ (b ∷ [])) f =
     elim (isSameText a unitName) [
       | false ↦ bad 21 1
@@ -177,7 +177,7 @@ unfoldable pub vertexNumbers : Line → Numbers
 vertexNumbers l = numbersOf vName 0 (numberMost ∷ numberMost ∷ numberMost ∷ numberMost ∷ []) l
 
 -- the lines behind the heading. The first of them is line k; `due` vertices of the last contour are still to come. "after 22 on one line"
-unfoldable pub readBody : ℕ → ℕ → List Line → Sheet → Read
+unfoldable pub readBody : ℕ → ℕ → List Line → Sheet → Read Sheet
 readBody k zero [] s = taken s
 readBody k (suc due) [] s = bad 22 k
 readBody k zero (l ∷ ls) s =
@@ -215,31 +215,19 @@ nvpNumbers l = numbersOf nvpName 0 (numberMost ∷ []) l
 unfoldable pub gridNumbers : Line → Numbers
 gridNumbers l = numbersOf gridName 0 (numberMost ∷ numberMost ∷ numberMost ∷ []) l
 
--- "then at the first bad line": all lines, in their order
-unfoldable pub readSheet : List Line → Read
-readSheet ls =
+-- "then at the first bad line": all lines, in their order; first the heading's
+unfoldable pub readHeading : List Line → Read Sheet
+readHeading ls =
     needUnit (lineAt ls 0) (λ inches.
     need 2 (cellNumbers (lineAt ls 1)) (λ cells.
     need 3 (nvpNumbers (lineAt ls 2)) (λ nvp.
     need 4 (gridNumbers (lineAt ls 3)) (λ grid.
-    readBody (headingLines + 1) 0 (drop headingLines ls) (noContours inches cells nvp grid)))))
+    taken (noContours inches cells nvp grid)))))
+
+unfoldable pub readSheet : List Line → Read Sheet
+readSheet ls = andThen (readHeading ls) (readBody (headingLines + 1) 0 (drop headingLines ls))
 
 -- ---- what is built
-
--- "Box and edge error are zero."; "thousandths, divided by 1000 with one rounding"
-unfoldable pub zeroFloat : Float
-zeroFloat = Ieee.ofBits binary32 0
-
-unfoldable pub noPlace : Vec3
-noPlace = record { x = zeroFloat; y = zeroFloat; z = zeroFloat }
-
-unfoldable pub headerOf : Bool → ℕ → ℕ → Header
-headerOf inches size height = record {
-  aabb = record { min = noPlace; max = noPlace };
-  «cell_size» = sizeIn inches (thousandths size);
-  «cell_height» = thousandths height;
-  «max_edge_error» = zeroFloat;
-}
 
 -- what the job comes to, in buffers that are just long enough
 unfoldable pub outcomeOf : Job → Outcome
@@ -280,18 +268,18 @@ builtText s (refused r) = refusedText (refusalNumber r) (refusalSecond r)
 builtText s (built m links log) =
     unitLine (s .inches) ++ (numberLine cellName (s .size ∷ s .height ∷ []) ++ meshText (record { vertices = m .vertices; polygons = m .polygons; links = links }))
 
--- what is printed for a sheet that was read as far as its end, by f
-unfoldable pub readText : (Sheet → List ℕ) → Read → List ℕ
+-- what is printed for what was read as far as its end, by f
+unfoldable pub readText : {A : Type 0} → (A → List ℕ) → Read A → List ℕ
 readText f (bad number line) = refusedText number line
-readText f (taken s) = f s
+readText f (taken a) = f a
 
--- "23 over 65,536 bytes (line 0), before all"
-unfoldable pub textBy : (Sheet → List ℕ) → List ℕ → List ℕ
-textBy f bytes = elim (ltb bytesMost (length bytes)) [
+-- what is printed for bytes whose lines are read so. "23 over 65,536 bytes (line 0), before all"
+unfoldable pub textBy : {A : Type 0} → (List Line → Read A) → (A → List ℕ) → List ℕ → List ℕ
+textBy read f bytes = elim (ltb bytesMost (length bytes)) [
   | true ↦ refusedText 23 0
-  | false ↦ readText f (readSheet (linesOf bytes))
+  | false ↦ readText f (read (linesOf bytes))
 ]
 
 -- the sheet is meshed
 unfoldable pub textOf : List ℕ → List ℕ
-textOf bytes = textBy (λ s. builtText s (outcomeOf (s .job))) bytes
+textOf bytes = textBy readSheet (λ s. builtText s (outcomeOf (s .job))) bytes

@@ -13,6 +13,9 @@ pub struct Vertex {
     pub z: u16,
 }
 
+// How many numbers a stored vertex has: x, y and z. (`vertexStride` of the rules' `Checks`)
+pub const VERTEX_STRIDE: usize = 3;
+
 // The answer of a search: a place, or none.
 pub enum Found {
     At(usize),
@@ -138,4 +141,32 @@ pub enum MendReply {
     LengthsDisagree,
     ShortScratch,
     ListFull,
+}
+
+// What is wrong with a mesh that is handed in, before anything else is asked of it: 40, or 41 or 42 with the first polygon at
+// fault.
+pub enum Fault {
+    BadBuffers,
+    BadCorners(u64),
+    BadLinks(u64),
+}
+
+// Whether a mesh that is handed in is sound: refusals 40 to 42.
+pub enum Soundness {
+    Sound,
+    Broken(Fault),
+}
+
+// What the checker says of a mesh: it is accepted, or the first of refusals 40 to 44, in the order of their numbers.
+pub enum Verdict {
+    Accepted,
+    Unsound(Fault),
+    BadPortals(u64),
+    BadArea,
+}
+
+// A cell that is read as a whole number with its sign: the number, or none.
+pub enum Signed {
+    Whole(i64),
+    NotWhole,
 }

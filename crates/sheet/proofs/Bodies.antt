@@ -48,18 +48,18 @@ sum-snoc ls x =
 -- ---- what the lines from p on come to
 
 -- a contour of these numbers at line k, and then the lines ls
-unfoldable contourOn : ℕ → List Line → Sheet → List ℕ → Read
+unfoldable contourOn : ℕ → List Line → Sheet → List ℕ → Read Sheet
 contourOn k ls s ms = elim (tooMany (s .job) (getD ms 2 0)) [
   | true ↦ bad 24 k
   | false ↦ readBody (k + 1) (getD ms 2 0) ls (withContour ms s)
 ]
 
 -- a line that isn't good ends the reading, and with a good one it goes on
-need-bad : (k : ℕ) (f : List ℕ → Read) {n : Numbers} → n ≡ malformed → need k n f ≡ bad 22 k
+need-bad : (k : ℕ) (f : List ℕ → Read Sheet) {n : Numbers} → n ≡ malformed → need k n f ≡ bad 22 k
 unfolding need
 need-bad k f e = rw e refl
 
-need-good : (k : ℕ) (f : List ℕ → Read) {n : Numbers} {ms : List ℕ} → n ≡ numbers ms → need k n f ≡ f ms
+need-good : (k : ℕ) (f : List ℕ → Read Sheet) {n : Numbers} {ms : List ℕ} → n ≡ numbers ms → need k n f ≡ f ms
 unfolding need
 need-good k f e = rw e refl
 

@@ -3,8 +3,7 @@ use mathlib.Core.Path.{_≡_}
 use mathlib.Core.Bool.{Bool}
 use Prim.Native.Nat.{ℕ}
 use lib.Ieee.{Float}
-use Rattle.rules.specs.Units.{sizeIn, thousandths}
-use Rattle.rules.specs.Sheet.{zeroFloat, noPlace, headerOf}
+use Rattle.rules.specs.Units.{sizeIn, thousandths, zeroFloat, noPlace, headerOf}
 use Rattle.rules.specs.declared.CellSize.{CellSize}
 use Rattle.rules.specs.declared.Header.{Header}
 

@@ -1,4 +1,4 @@
--- The heading lines, one after the other: a line that is bad is the refusal, and behind a good one the sheet comes to what the lines that are left come to.
+-- The heading lines, one after the other: a line that is bad is the refusal, and behind a good one the heading comes to what the lines that are left come to.
 -- A line of a name and one word is known by its whole text, since its cells joined by tabs are the text again. Assumes nothing.
 use mathlib.Core.Path.{_≡_, refl, sym, ap, _∙_, subst}
 use mathlib.Core.Bool.{Bool, true, false, true≢false}
@@ -7,19 +7,21 @@ use Prim.Native.Nat.{ℕ, _+_, _≤_, _<_}
 use native.Mathlib.Omega.{arith}
 use lib.Dec.{eqb}
 use lib.ListN.{length, take, drop}
+use lib.Seq.{drop-drop}
 use borrow.Author.Tests.{eqb-true, eq-eqb}
 use Rattle.ints.specs.Bools.{and-left, and-right}
 use Rattle.rules.specs.Lines.{ascii, tabByte, lf, isSameText, onFirst, parts, Line, linesOf, malformed}
-use Rattle.rules.specs.Sheet.{Read, bad, unitName, mmName, inName, cellName, nvpName, gridName, lineAt, need, needUnit, cellNumbers, nvpNumbers, gridNumbers, cellLeast, cellMost, numberMost, noContours, readSheet}
+use Rattle.rules.specs.Sheet.{Sheet, Read, bad, unitName, mmName, inName, cellName, nvpName, gridName, lineAt, need, needUnit, cellNumbers, nvpNumbers, gridNumbers, cellLeast, cellMost, numberMost, headingLines, noContours, readHeading}
 use Rattle.lines.specs.declared.line.LineRead.{LineRead}
 use Rattle.lines.specs.Scan.{placeOf, parts-some}
 use Rattle.lines.specs.Read.{lineEnd, numbersAt}
 use Rattle.lines.specs.Taken.{line-at, no-cells, Good}
 use Rattle.sheet.specs.declared.heading.Heading.{Heading}
+use Rattle.sheet.specs.declared.heading.HeadingRead.{HeadingRead}
 use Rattle.sheet.specs.declared.heading.HeadingRead.the-variants.{Headed}
 use Rattle.sheet.specs.declared.heading.UnitRead.{UnitRead}
 use Rattle.sheet.specs.declared.heading.UnitRead.the-variants.{Known, Missing}
-use Rattle.sheet.specs.Reading.{UnitIs, fromGrid, fromNvp, fromCell, sheetOf, goesOn, Behind}
+use Rattle.sheet.specs.Reading.{UnitIs, fromGrid, fromNvp, fromCell, sheetOf, headedAs, BehindIs, Behind}
 
 -- ---- a text is the same as another, and a text is its parts
 same-is : (a b : List ℕ) → isSameText a b ≡ true → a ≡ b
@@ -70,7 +72,7 @@ mmLine = 117 ∷ 110 ∷ 105 ∷ 116 ∷ 9 ∷ 109 ∷ 109 ∷ []
 abbrev pub inLine : List ℕ
 inLine = 117 ∷ 110 ∷ 105 ∷ 116 ∷ 9 ∷ 105 ∷ 110 ∷ []
 
-module _ (line : List ℕ) (f : Bool → Read) where
+module _ (line : List ℕ) (f : Bool → Read Sheet) where
   pub unit-mm : isSameText line mmLine ≡ true → needUnit (parts tabByte line) f ≡ f false
   unfolding needUnit parts onFirst isSameText unitName mmName ascii
   unit-mm e = rw (same-is line mmLine e) refl
@@ -118,13 +120,13 @@ module _ (text : List ℕ) {e : ℕ} (q : e ≡ 0 + placeOf lf (drop 0 text)) wh
   unfolding lineEnd
   first-line h = let x : placeOf lf text ≡ e = omega arith in let y : 0 + e + 1 ≡ e + 1 = omega arith in rw (x, y) at (line-at text 0 (omega arith))
 
-  pub unit-known : (inches : Bool) → e < length text → ((f : Bool → Read) → needUnit (parts tabByte (take e text)) f ≡ f inches) → UnitIs text (Known inches (e + 1))
+  pub unit-known : (inches : Bool) → e < length text → ((f : Bool → Read Sheet) → needUnit (parts tabByte (take e text)) f ≡ f inches) → UnitIs text (Known inches (e + 1))
   unfolding UnitIs lineAt
   unit-known inches h k =
       let l = first-line h in
       ((λ f. rw l (k f)), (rw l refl), omega arith)
 
-  pub unit-missing : e < length text → ((f : Bool → Read) → needUnit (parts tabByte (take e text)) f ≡ bad 21 1) → UnitIs text Missing
+  pub unit-missing : e < length text → ((f : Bool → Read Sheet) → needUnit (parts tabByte (take e text)) f ≡ bad 21 1) → UnitIs text Missing
   unfolding UnitIs lineAt
   unit-missing h k f = rw (first-line h) (k f)
 
@@ -133,29 +135,36 @@ module _ (text : List ℕ) {e : ℕ} (q : e ≡ 0 + placeOf lf (drop 0 text)) wh
   unit-open h f = ap (λ (l : Line). needUnit l f) (no-cells text 0 (omega arith))
 
 -- ---- all heading lines
-sheet-steps : (ls : List Line) → readSheet ls ≡ needUnit (lineAt ls 0) (λ inches. fromCell inches (drop 1 ls))
-unfolding readSheet lineAt fromCell fromNvp fromGrid
-sheet-steps [] = refl
-sheet-steps (a ∷ []) = refl
-sheet-steps (a ∷ (b ∷ [])) = refl
-sheet-steps (a ∷ (b ∷ (c ∷ []))) = refl
-sheet-steps (a ∷ (b ∷ (c ∷ (d ∷ ls)))) = refl
+heading-steps : (ls : List Line) → readHeading ls ≡ needUnit (lineAt ls 0) (λ inches. fromCell inches (drop 1 ls))
+unfolding readHeading lineAt fromCell fromNvp fromGrid
+heading-steps [] = refl
+heading-steps (a ∷ []) = refl
+heading-steps (a ∷ (b ∷ [])) = refl
+heading-steps (a ∷ (b ∷ (c ∷ []))) = refl
+heading-steps (a ∷ (b ∷ (c ∷ (d ∷ ls)))) = refl
 
 module _ (text : List ℕ) {u : UnitRead} (is : UnitIs text u) where
-  pub heading-missing : u ≡ Missing → readSheet (linesOf text) ≡ bad 21 1
+  pub heading-missing : u ≡ Missing → readHeading (linesOf text) ≡ bad 21 1
   unfolding UnitIs
-  heading-missing e = sheet-steps (linesOf text) ∙ subst (UnitIs text) e is (λ inches. fromCell inches (drop 1 (linesOf text)))
+  heading-missing e = heading-steps (linesOf text) ∙ subst (UnitIs text) e is (λ inches. fromCell inches (drop 1 (linesOf text)))
 
   module _ {inches : Bool} {p : ℕ} (e : u ≡ Known inches p) where
-    pub heading-known : readSheet (linesOf text) ≡ fromCell inches (linesOf (drop p text))
+    pub heading-known : readHeading (linesOf text) ≡ fromCell inches (linesOf (drop p text))
     unfolding UnitIs
     heading-known =
         let k = subst (UnitIs text) e is in
-        sheet-steps (linesOf text) ∙ k .0 (λ i. fromCell i (drop 1 (linesOf text))) ∙ ap (fromCell inches) (sym (k .1))
+        heading-steps (linesOf text) ∙ k .0 (λ i. fromCell i (drop 1 (linesOf text))) ∙ ap (fromCell inches) (sym (k .1))
 
     pub known-within : p ≤ length text
     unfolding UnitIs
     known-within = subst (UnitIs text) e is .2
+
+    -- the lines behind three more are those behind the heading
+    pub known-behind : (r : HeadingRead) → BehindIs text (drop 3 (linesOf (drop p text))) r → Behind text r
+    unfolding UnitIs
+    known-behind r b =
+        let q : drop 3 (linesOf (drop p text)) ≡ drop headingLines (linesOf text) = ap (drop 3) (subst (UnitIs text) e is .1) ∙ drop-drop 3 1 (linesOf text) in
+        subst (λ (ls : List Line). BehindIs text ls r) q b
 
 -- ---- the cell line, the nvp line and the grid line
 abbrev pub CellGood : List ℕ → ℕ → LineRead → Type 0
@@ -214,10 +223,12 @@ module _ (text : List ℕ) (p : ℕ) (inches : Bool) where
           at = grid .next;
         }
 
-        pub grid-good : fromCell inches (linesOf (drop p text)) ≡ goesOn text (Headed headed)
-        unfolding fromGrid gridNumbers lineAt numbersAt need goesOn sheetOf noContours
-        grid-good = nvp-good ∙ rw (k .says, k .rest, g .a, g .b, h .a, k .a, k .b, k .c) refl
+        pub grid-good : fromCell inches (linesOf (drop p text)) ≡ headedAs (Headed headed)
+        unfolding fromGrid gridNumbers lineAt numbersAt need headedAs sheetOf noContours
+        grid-good = nvp-good ∙ rw (k .says, g .a, g .b, h .a, k .a, k .b, k .c) refl
 
-        pub all-behind : Behind text (Headed headed)
-        unfolding Behind
-        all-behind = k .within
+        pub all-behind : BehindIs text (drop 3 (linesOf (drop p text))) (Headed headed)
+        unfolding BehindIs
+        all-behind =
+            let two : drop 2 (linesOf (drop p text)) ≡ linesOf (drop (limit .next) text) = sym (drop-drop 1 1 (linesOf (drop p text))) ∙ ap (drop 1) (g .rest) ∙ h .rest in
+            record { within = k .within; rest = sym (sym (drop-drop 1 2 (linesOf (drop p text))) ∙ ap (drop 1) two ∙ k .rest) }

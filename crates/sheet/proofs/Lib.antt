@@ -6,12 +6,6 @@ pub mod BodyLines
 pub mod Bodies
 -- the header, field by field
 pub mod Headers
--- the corners of a stored polygon, counted
-pub mod Corners
--- their places as words, and the area of these
-pub mod Places
--- the areas, added up
-pub mod Sums
 -- the texts of each line, and the loops that print them
 pub mod LineTexts
 pub mod RowLoops

@@ -10,7 +10,7 @@ use Rattle.rules.specs.Areas.{storedArea}
 use Rattle.rules.specs.Exits.{decoded}
 use Rattle.rules.specs.Sheet.{meshText}
 use Rattle.lines.specs.Pieces.{joined, Going, going-begin}
-use Rattle.sheet.specs.Stored.{lentOf, storedIn}
+use Rattle.stored.specs.Stored.{lentOf, storedIn}
 use Rattle.sheet.specs.Rows.{meshLineOf, vertexRows, polygonRows}
 use Rattle.sheet.specs.Printable.{Printable, mesh-parts}
 

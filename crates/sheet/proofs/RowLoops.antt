@@ -15,9 +15,9 @@ use Rattle.rules.specs.Exits.{vertexWords, vertexOf, upToNone, storedPolygon, s
 use Rattle.rules.specs.Sheet.{vName, vertexLine, polygonLines, verticesText, polygonsText}
 use Rattle.rules.specs.declared.Vertex.{Vertex}
 use Rattle.lines.specs.Pieces.{textsFrom}
-use Rattle.sheet.specs.Stored.{lentOf, storedVertices}
+use Rattle.stored.specs.Stored.{lentOf, storedVertices}
+use Rattle.stored.specs.Counts.{corners-there}
 use Rattle.sheet.specs.Rows.{polygonText, vertexRows, polygonRows}
-use Rattle.sheet.proofs.Corners.{corners-there}
 
 -- ---- vertices
 

@@ -10,8 +10,8 @@ use Rattle.rules.specs.Sheet.{declaredMost, outcomeOf, refusedText, meshText, b
 use Rattle.rules.specs.declared.Reply.{Reply}
 use Rattle.rules.specs.declared.Reply.the-variants.{Built, Refused}
 use Rattle.lines.specs.Print.{Room}
+use Rattle.stored.specs.Stored.{lentOf}
 use Rattle.sheet.specs.declared.heading.Heading.{Heading}
-use Rattle.sheet.specs.Stored.{lentOf}
 use Rattle.sheet.specs.Rows.{topText}
 use Rattle.sheet.specs.Printable.{MeshStands}
 use Rattle.sheet.specs.Reading.{sheetOf, withLists}

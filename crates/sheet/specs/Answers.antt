@@ -29,7 +29,7 @@ use Rattle.laws.specs.Checks.{T-below-V, V-below-all}
 use Rattle.laws.specs.Build.{bounded}
 use Rattle.laws.specs.Reached.{built-passed}
 use Rattle.laws.specs.Replies.{WasBuilt, was-refused, was-built}
-use Rattle.sheet.specs.Stored.{lentOf, MeshReady}
+use Rattle.stored.specs.Stored.{lentOf, MeshReady}
 use Rattle.sheet.specs.Rows.{topText}
 use Rattle.sheet.specs.Enough.{sheetLengths, sheet-enough}
 use Rattle.sheet.specs.Room.{outMost, built-room}

@@ -1,9 +1,5 @@
 -- What the steps of a sheet ask for and leave. What is printed is said in the rules' `Sheet`.
--- a stored mesh in the lent buffers: definitions that contracts cite
-pub mod Stored
--- its area: laws for those who call
-pub mod Areas
--- its lines as they are printed, and the whole
+-- the lines of a stored mesh as they are printed, and the whole
 pub mod Rows
 pub mod Printable
 -- how far a sheet has been read

@@ -11,8 +11,8 @@ use Rattle.rules.specs.Exits.{vertexOf, storedPolygon, storedLinks, decoded}
 use Rattle.rules.specs.Areas.{storedArea}
 use Rattle.rules.specs.Sheet.{meshLine, verticesText, polygonsText, meshText}
 use Rattle.lines.specs.Print.{Room}
-use Rattle.sheet.specs.Stored.{lentOf, storedIn, storedVertices, MeshReady}
-use Rattle.sheet.specs.Areas.{area-stored}
+use Rattle.stored.specs.Stored.{lentOf, storedIn, storedVertices, MeshReady}
+use Rattle.stored.specs.Areas.{area-stored}
 use Rattle.sheet.specs.Rows.{meshLineOf, vertexRows, polygonRows}
 
 -- the mesh can be measured, and its links, regions and codes are there

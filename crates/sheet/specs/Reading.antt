@@ -25,18 +25,17 @@ use Rattle.sheet.specs.declared.read.SheetRead.the-variants.{Taken, Bad}
 
 -- what the first line is found to be: with a unit the reading goes on behind the line, and otherwise it ends there
 unfoldable pub UnitIs : List ℕ → UnitRead → Type 0
-UnitIs text (Known inches p) = ((f : Bool → Read) → needUnit (lineAt (linesOf text) 0) f ≡ f inches) × (linesOf (drop p text) ≡ drop 1 (linesOf text)) × (p ≤ length text)
-UnitIs text Missing = (f : Bool → Read) → needUnit (lineAt (linesOf text) 0) f ≡ bad 21 1
+UnitIs text (Known inches p) = ((f : Bool → Read Sheet) → needUnit (lineAt (linesOf text) 0) f ≡ f inches) × (linesOf (drop p text) ≡ drop 1 (linesOf text)) × (p ≤ length text)
+UnitIs text Missing = (f : Bool → Read Sheet) → needUnit (lineAt (linesOf text) 0) f ≡ bad 21 1
 
--- the heading lines behind the first, and the lines behind the heading: what the lines ls come to, if they begin with the grid line, with the nvp line, with
--- the cell line
-unfoldable pub fromGrid : Bool → List ℕ → List ℕ → List Line → Read
-fromGrid inches cells nvp ls = need 4 (gridNumbers (lineAt ls 0)) (λ grid. readBody (headingLines + 1) 0 (drop 1 ls) (noContours inches cells nvp grid))
+-- the heading lines behind the first: what the lines ls come to, if they begin with the grid line, with the nvp line, with the cell line
+unfoldable pub fromGrid : Bool → List ℕ → List ℕ → List Line → Read Sheet
+fromGrid inches cells nvp ls = need 4 (gridNumbers (lineAt ls 0)) (λ grid. taken (noContours inches cells nvp grid))
 
-unfoldable pub fromNvp : Bool → List ℕ → List Line → Read
+unfoldable pub fromNvp : Bool → List ℕ → List Line → Read Sheet
 fromNvp inches cells ls = need 3 (nvpNumbers (lineAt ls 0)) (λ nvp. fromGrid inches cells nvp (drop 1 ls))
 
-unfoldable pub fromCell : Bool → List Line → Read
+unfoldable pub fromCell : Bool → List Line → Read Sheet
 fromCell inches ls = need 2 (cellNumbers (lineAt ls 0)) (λ cells. fromNvp inches cells (drop 1 ls))
 
 -- the sheet of a heading, before its contours
@@ -57,15 +56,28 @@ sheetOf x = record {
   };
 }
 
+-- what the heading comes to
+unfoldable pub headedAs : HeadingRead → Read Sheet
+headedAs (Headed x) = taken (sheetOf x)
+headedAs (Refused n k) = bad n k
+
 -- what the sheet comes to, as far as its heading tells
-unfoldable pub goesOn : List ℕ → HeadingRead → Read
+unfoldable pub goesOn : List ℕ → HeadingRead → Read Sheet
 goesOn text (Headed x) = readBody (headingLines + 1) 0 (linesOf (drop (x .at) text)) (sheetOf x)
 goesOn text (Refused n k) = bad n k
 
--- the heading's end is within the text
-unfoldable pub Behind : List ℕ → HeadingRead → Type 0
-Behind text (Headed x) = x .at ≤ length text
-Behind text (Refused n k) = Unit {0}
+-- the heading's end is within the text, and the lines behind it are these
+pub record EndsAt (text : List ℕ) (ls : List Line) (x : Heading) : Type 0 where
+  pub within : x .at ≤ length text
+  pub rest : linesOf (drop (x .at) text) ≡ ls
+
+unfoldable pub BehindIs : List ℕ → List Line → HeadingRead → Type 0
+BehindIs text ls (Headed x) = EndsAt text ls x
+BehindIs text ls (Refused n k) = Unit {0}
+
+-- they are the lines behind the first four
+abbrev pub Behind : List ℕ → HeadingRead → Type 0
+Behind text r = BehindIs text (drop headingLines (linesOf text)) r
 
 -- ---- the body
 
@@ -92,14 +104,14 @@ unfoldable pub soFar : Sheet → Progress → List ℕ → List ℕ → List ℕ
 soFar s p ls rs cs ns = withLists s (take (p .contours) ls) (take (p .contours) rs) (take (p .contours) cs) (take (p .vertices * jobStride) ns)
 
 -- what the lines that are left come to
-unfoldable pub restOf : List ℕ → Progress → Sheet → Read
+unfoldable pub restOf : List ℕ → Progress → Sheet → Read Sheet
 restOf text p s = elim (eqb (p .refusal) 0) [
   | true ↦ readBody (p .line) (p .due) (linesOf (drop (p .at) text)) s
   | false ↦ bad (p .refusal) (p .line)
 ]
 
 -- what all lines came to
-unfoldable pub endOf : Progress → Sheet → Read
+unfoldable pub endOf : Progress → Sheet → Read Sheet
 endOf p s = cond (eqb (p .refusal) 0) (taken s) (bad (p .refusal) (p .line))
 
 -- the reading ends here, with this refusal
@@ -229,12 +241,15 @@ pub record BodyRead (text : List ℕ) (from : ℕ) (p : Progress) (ls rs cs ns :
 
 -- ---- the whole
 
--- what the bytes come to: "23 over 65,536 bytes (line 0), before all"
-unfoldable pub readBytes : List ℕ → Read
-readBytes t = elim (ltb bytesMost (length t)) [
+-- what the bytes come to, if their lines are read so: "23 over 65,536 bytes (line 0), before all"
+unfoldable pub bytesBy : {A : Type 0} → (List Line → Read A) → List ℕ → Read A
+bytesBy read t = elim (ltb bytesMost (length t)) [
   | true ↦ bad 23 0
-  | false ↦ readSheet (linesOf t)
+  | false ↦ read (linesOf t)
 ]
+
+abbrev pub readBytes : List ℕ → Read Sheet
+readBytes t = bytesBy readSheet t
 
 -- there is room for 32 contours and 96 vertices
 pub record ListsReady (ls rs cs ns : List ℕ) : Type 0 where
@@ -244,16 +259,16 @@ pub record ListsReady (ls rs cs ns : List ℕ) : Type 0 where
   pub numbers : length ns ≡ declaredMost * jobStride
 
 -- the whole w was read as far as its end: behind the heading x, c contours and v vertices stand in the lists, and the contours have these vertices
-pub record TakenAs (w : Read) (x : Heading) (c v : ℕ) (ls rs cs ns : List ℕ) : Type 0 where
+pub record TakenAs (w : Read Sheet) (x : Heading) (c v : ℕ) (ls rs cs ns : List ℕ) : Type 0 where
   pub contours : c ≤ contoursMost
   pub vertices : v ≤ declaredMost
   pub declared : sumOver (λ n. n) (take c ls) ≡ v
   pub same : w ≡ taken (withLists (sheetOf x) (take c ls) (take c rs) (take c cs) (take (v * jobStride) ns))
 
 -- what the whole w is found to be, and that in a record, which tells what it is of
-unfoldable pub FoundAs : Read → SheetRead → List ℕ → List ℕ → List ℕ → List ℕ → Type 0
+unfoldable pub FoundAs : Read Sheet → SheetRead → List ℕ → List ℕ → List ℕ → List ℕ → Type 0
 FoundAs w (Taken x c v) ls rs cs ns = TakenAs w x c v ls rs cs ns
 FoundAs w (Bad n k) ls rs cs ns = w ≡ bad n k
 
-pub record ReadAs (w : Read) (r : SheetRead) (ls rs cs ns : List ℕ) : Type 0 where
+pub record ReadAs (w : Read Sheet) (r : SheetRead) (ls rs cs ns : List ℕ) : Type 0 where
   pub found : FoundAs w r ls rs cs ns

@@ -10,7 +10,7 @@ use Rattle.rules.specs.Checks.{vertexStride}
 use Rattle.rules.specs.Exits.{storedPolygon, storedLinks}
 use Rattle.rules.specs.Sheet.{meshName, unitLine, cellName, polygonLines, verticesText, polygonsText}
 use Rattle.lines.specs.Print.{Room}
-use Rattle.sheet.specs.Stored.{lentOf, storedVertices}
+use Rattle.stored.specs.Stored.{lentOf, storedVertices}
 
 -- the two lines above a mesh: the unit and the cell, as they were read
 unfoldable pub topText : Bool → ℕ → ℕ → List ℕ

@@ -1,6 +1,6 @@
 // The header of the mesh.
 ghost use mathlib.Core.Path.{_≡_};
-ghost use Rattle.rules.specs.Sheet.{headerOf};
+ghost use Rattle.rules.specs.Units.{headerOf};
 use plane::unit::cell_size;
 use plane::unit::thousandths;
 use rules::Aabb3d;

@@ -3,8 +3,8 @@ ghost use mathlib.Core.Path.{_≡_};
 ghost use Prim.Native.Nat.{_≤_};
 ghost use lib.ListN.{length, drop};
 ghost use Rattle.rules.specs.Lines.{linesOf};
-ghost use Rattle.rules.specs.Sheet.{readSheet};
-ghost use Rattle.sheet.specs.Reading.{UnitIs, fromCell, goesOn, Behind};
+ghost use Rattle.rules.specs.Sheet.{readHeading};
+ghost use Rattle.sheet.specs.Reading.{UnitIs, fromCell, headedAs, BehindIs, Behind};
 use lines::line::read_line;
 use lines::scan::find;
 use lines::scan::is_same_text;
@@ -58,7 +58,8 @@ fn read_unit(text: &[u8]) -> UnitRead
 // The lines behind it, the first of which begins at `from`.
 fn read_rest(text: &[u8], inches: bool, from: usize) -> HeadingRead
     requires { ⌜ from ≤ length (now text) ⌝ }
-    ensures { λ r. ⌜ (fromCell inches (linesOf (drop from (now (text .entry)))) ≡ goesOn (now (text .entry)) r) × Behind (now (text .entry)) r ⌝ }
+    ensures { λ r. ⌜ (fromCell inches (linesOf (drop from (now (text .entry)))) ≡ headedAs r)
+        × BehindIs (now (text .entry)) (drop 3 (linesOf (drop from (now (text .entry))))) r ⌝ }
 {
     let cell = read_line(text, from, b"cell", 1, &[CELL_MOST, CELL_MOST]);
     if cell.good {
@@ -92,7 +93,7 @@ fn read_rest(text: &[u8], inches: bool, from: usize) -> HeadingRead
 
 // The heading of a sheet, or the refusal at its first bad line.
 pub fn read_heading(text: &[u8]) -> HeadingRead
-    ensures { λ r. ⌜ (readSheet (linesOf (now (text .entry))) ≡ goesOn (now (text .entry)) r) × Behind (now (text .entry)) r ⌝ }
+    ensures { λ r. ⌜ (readHeading (linesOf (now (text .entry))) ≡ headedAs r) × Behind (now (text .entry)) r ⌝ }
 {
     match read_unit(text) {
         UnitRead::Known(inches, at) => read_rest(text, inches, at),

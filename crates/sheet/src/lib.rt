@@ -4,7 +4,6 @@ mod header; // the header of the mesh
 pub mod heading; // the heading lines are read
 mod body; // the contours and their vertices are read
 pub mod read; // a sheet is read, from its first byte to its last contour
-mod area; // the doubled area of the stored polygons
 pub mod rows; // the lines of a mesh are printed
 mod mesh; // a stored mesh is printed
 mod answer; // a job is built, and its text printed

@@ -2,12 +2,12 @@
 ghost use Rattle.rules.specs.Exits.{decoded};
 ghost use Rattle.rules.specs.Sheet.{meshText};
 ghost use Rattle.lines.specs.Print.{Printed};
-ghost use Rattle.sheet.specs.Stored.{lentOf};
+ghost use Rattle.stored.specs.Stored.{lentOf};
 ghost use Rattle.sheet.specs.Printable.{Printable};
-use crate::area::mesh_area;
 use crate::rows::put_mesh_line;
 use crate::rows::put_polygons;
 use crate::rows::put_vertices;
+use stored::area::mesh_area;
 
 // The mesh of n polygons of nvp words each, and of k vertices: its counts and area, its vertices, its polygons with their links.
 pub fn put_mesh(

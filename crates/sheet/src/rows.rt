@@ -4,12 +4,13 @@ ghost use Rattle.rules.specs.Lines.{numberLine};
 ghost use Rattle.rules.specs.Sheet.{mmName, inName, refusedText, unitLine};
 ghost use Rattle.lines.specs.Print.{Room, Printed};
 ghost use Rattle.sheet.specs.Rows.{topText, meshLineOf, polygonText, vertexRows, polygonRows, VerticesReady, PolygonsReady};
-use crate::area::count_corners;
 use lines::cells::put_cell;
 use lines::cells::put_cells16;
 use lines::cells::put_cells32;
 use lines::cells::put_signed_cell;
 use lines::print::put_text;
+use rules::VERTEX_STRIDE;
+use stored::corners::count_corners;
 
 // A line of a name and of numbers of 16 bits.
 pub fn put_line16(out: &mut [u8], at: usize, name: &[u8], ns: &[u16]) -> usize
@@ -99,8 +100,8 @@ pub fn put_vertices(out: &mut [u8], at: usize, k: usize, vertices: &[u16]) -> us
     let mut to = at;
     let mut i = 0;
     while i < k {
-        let from = i * 3;
-        to = put_line16(out, to, b"v", &vertices[from..from + 3]);
+        let from = i * VERTEX_STRIDE;
+        to = put_line16(out, to, b"v", &vertices[from..from + VERTEX_STRIDE]);
         i += 1;
     }
     to

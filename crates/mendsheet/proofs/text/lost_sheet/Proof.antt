@@ -1,6 +1,7 @@
 -- `mendsheet::text::lost_sheet` meets its contract: a refusal of the reading, or the lost points of the lists that were read. Assumes nothing.
 use native.Mathlib.Omega.{arith}
 use borrow.Author.Needs.{needs}
+use Rattle.rules.specs.Sheet.{readSheet}
 use Rattle.rules.specs.MendSheet.{lostLines, lostText}
 use Rattle.lines.specs.Printing.{printed-as}
 use Rattle.sheet.specs.Parts.{whole-part, whole-numbers}
@@ -96,7 +97,7 @@ returns c =
     let r = n .before .before .before .before .before .before in
     let s = r .before .before .before .before .before .before in
     whole-answer (c .before .put-refused-arg .given .0 .1) (refused-room (n .n .given .0 .0) (n .n .given .0 .1 .0)) (c .put-refused .ensures)
-    (bad-text (λ t. lostLines (t .job)) (s .args .text .now) (bad-as (r .read-sheet .ensures) (n .n .given .1)))
+    (bad-text readSheet (λ t. lostLines (t .job)) (s .args .text .now) (bad-as (r .read-sheet .ensures) (n .n .given .1)))
 
 returns-2 : tie.Need-returns-2
 returns-2 c =

@@ -1,6 +1,7 @@
 -- `mendsheet::text::mend_sheet` meets its contract: a refusal of the reading, or the mended sheet of the lists that were read. Assumes nothing.
 use native.Mathlib.Omega.{arith}
 use borrow.Author.Needs.{needs}
+use Rattle.rules.specs.Sheet.{readSheet}
 use Rattle.rules.specs.MendSheet.{mendedSheet, sheetText, mendText}
 use Rattle.lines.specs.Printing.{printed-as}
 use Rattle.sheet.specs.Parts.{whole-part, whole-numbers}
@@ -105,7 +106,7 @@ returns c =
     let r = n .before .before .before .before .before .before in
     let s = r .before .before .before .before .before .before in
     whole-answer (c .before .put-refused-arg .given .0 .1) (refused-room (n .n .given .0 .0) (n .n .given .0 .1 .0)) (c .put-refused .ensures)
-    (bad-text (λ t. sheetText (mendedSheet t)) (s .args .text .now) (bad-as (r .read-sheet .ensures) (n .n .given .1)))
+    (bad-text readSheet (λ t. sheetText (mendedSheet t)) (s .args .text .now) (bad-as (r .read-sheet .ensures) (n .n .given .1)))
 
 returns-2 : tie.Need-returns-2
 returns-2 c =

@@ -1,7 +1,6 @@
 -- `sheet::header::header_of` meets its contract: field by field. Assumes nothing.
 use mathlib.Core.Path.{_≡_, ap, _∙_}
-use Rattle.rules.specs.Units.{sizeIn, thousandths}
-use Rattle.rules.specs.Sheet.{zeroFloat, noPlace}
+use Rattle.rules.specs.Units.{sizeIn, thousandths, zeroFloat, noPlace}
 use Rattle.sheet.proofs.Headers.{header-is}
 use borrow.Author.Needs.{needs}
 use Rattle.sheet.proofs.header.header_of.Statement.{statement}

@@ -1,8 +1,8 @@
 -- `sheet::heading::read_heading` meets its contract: the first line, and then the others. Assumes nothing.
 use mathlib.Core.Path.{_∙_}
 use borrow.Author.Needs.{needs}
-use Rattle.sheet.specs.Reading.{goesOn, Behind}
-use Rattle.sheet.proofs.Headings.{heading-missing, heading-known, known-within}
+use Rattle.sheet.specs.Reading.{headedAs, BehindIs}
+use Rattle.sheet.proofs.Headings.{heading-missing, heading-known, known-within, known-behind}
 use Rattle.sheet.proofs.heading.read_heading.Statement.{statement}
 use Rattle.sheet.proofs.heading.read_heading.Tie as tie
 
@@ -20,10 +20,15 @@ enum-told c = search needs
 
 returns : tie.Need-returns
 returns c =
-    (heading-known (c .before .before .before .before .before .before .args .text .now) (c .before .before .before .before .read-unit .ensures) (c .before .before .inches .given .1) ∙ c .read-rest .ensures .0, c .read-rest .ensures .1)
+    let k = c .before .before in
+    let u = k .before .before in
+    let text = u .before .before .args .text .now in (
+      heading-known text (u .read-unit .ensures) (k .inches .given .1) ∙ c .read-rest .ensures .0,
+      known-behind text (u .read-unit .ensures) (k .inches .given .1) _ (c .read-rest .ensures .1),
+    )
 
 returns-2 : tie.Need-returns-2
-unfolding goesOn Behind
+unfolding headedAs BehindIs
 returns-2 c = (heading-missing (c .before .before .before .before .args .text .now) (c .before .before .read-unit .ensures) (c .enum-told .given .1), Prim.tt)
 
 pub read-heading-spec : {M : Type 1} → statement M

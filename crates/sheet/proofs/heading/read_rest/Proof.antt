@@ -4,7 +4,7 @@ use borrow.Author.Needs.{needs}
 use Rattle.rules.specs.Sheet.{cellName, nvpName, gridName}
 use Rattle.rules.specs.Lines.{ascii}
 use Rattle.lines.specs.Taken.{good-read, bad-read}
-use Rattle.sheet.specs.Reading.{goesOn, Behind}
+use Rattle.sheet.specs.Reading.{headedAs, BehindIs}
 use Rattle.sheet.proofs.Headings.{CellGood, NvpGood, GridGood, cell-most, nvp-most, grid-most, cell-bad, nvp-bad, grid-bad, grid-good, all-behind}
 use Rattle.sheet.proofs.heading.read_rest.Statement.{statement}
 use Rattle.sheet.proofs.heading.read_rest.Tie as tie
@@ -76,19 +76,19 @@ returns c =
     (grid-good (a .text .now) (a .from) (a .inches) g h k, all-behind (a .text .now) (a .from) (a .inches) g h k)
 
 returns-2 : tie.Need-returns-2
-unfolding goesOn Behind gridName ascii
+unfolding headedAs BehindIs gridName ascii
 returns-2 c =
     let a = c .before .before .before .before .before .before .before .before .before .before .before .before .before .args in
     (grid-bad (a .text .now) (a .from) (a .inches) (cell-line (c .before .before .before .before .before .before .before .before)) (nvp-line (c .before .before .before .before)) (bad-read _ _ _ _ _ (c .before .read-line3 .ensures) (c .if3 .left)), Prim.tt)
 
 returns-3 : tie.Need-returns-3
-unfolding goesOn Behind nvpName ascii
+unfolding headedAs BehindIs nvpName ascii
 returns-3 c =
     let a = c .before .before .before .before .before .before .before .before .before .args in
     (nvp-bad (a .text .now) (a .from) (a .inches) (cell-line (c .before .before .before .before)) (bad-read _ _ _ _ _ (c .before .read-line2 .ensures) (c .if2 .left)), Prim.tt)
 
 returns-4 : tie.Need-returns-4
-unfolding goesOn Behind cellName ascii
+unfolding headedAs BehindIs cellName ascii
 returns-4 c =
     let a = c .before .before .before .before .before .args in
     (cell-bad (a .text .now) (a .from) (a .inches) (bad-read _ _ _ _ _ (c .before .read-line .ensures) (c .if1 .left)), Prim.tt)

@@ -6,7 +6,7 @@ use Rattle.rules.specs.Exits.{decoded}
 use Rattle.rules.specs.Sheet.{meshText}
 use Rattle.lines.specs.Pieces.{Going, going-room, going-more, going-end}
 use Rattle.lines.specs.Printing.{printed-same-length}
-use Rattle.sheet.specs.Stored.{lentOf}
+use Rattle.stored.specs.Stored.{lentOf}
 use Rattle.sheet.specs.Rows.{meshLineOf, vertexRows, polygonRows}
 use Rattle.sheet.proofs.Meshes.{area-bits, mesh-going}
 use borrow.Author.Needs.{needs}

@@ -28,7 +28,7 @@ returns-2 c =
     let x = c .before in
     let h = x .before .before in
     let s = h .before .before .before .before .before .before .before in
-    bad-heading (s .args .text .now) _ _ _ _ (h .before .if1 .left) (h .read-heading .result) (h .read-heading .ensures .0)
+    bad-heading (s .args .text .now) _ _ _ _ (h .before .if1 .left) (h .read-heading .result) (h .read-heading .ensures .0) (h .read-heading .ensures .1)
     (x .n .given .0 .0) (x .n .given .0 .1 .0) (x .n .given .1)
 
 same-length : tie.Need-same-length
@@ -49,7 +49,7 @@ returns-3 c =
     let x = b .before .before .before .before .before .before in
     let h = x .before .before in
     let s = h .before .before .before .before .before .before .before in
-    good-heading (s .args .text .now) _ _ _ _ (h .before .if1 .left) (h .read-heading .result) (h .read-heading .ensures .0)
+    good-heading (s .args .text .now) _ _ _ _ (h .before .if1 .left) (h .read-heading .result) (h .read-heading .ensures .0) (h .read-heading .ensures .1)
     (x .x .given .0 .0) (b .read-contours .result) (x .x .given .1) (b .read-contours .ensures)
 
 pub read-sheet-spec : {M : Type 1} → statement M

@@ -9,8 +9,8 @@ use Rattle.mem.specs.Slice.{view}
 use Rattle.mem.specs.Loops.{block-fits}
 use Rattle.lines.specs.Pieces.{Pieces, pieces-none, pieces-room, pieces-more, pieces-all}
 use Rattle.lines.specs.Printing.{printed-as}
+use Rattle.stored.specs.Counts.{count-most}
 use Rattle.sheet.specs.Rows.{polygonText, polygonRows}
-use Rattle.sheet.proofs.Corners.{count-most}
 use Rattle.sheet.proofs.RowLoops.{polygonRow, polygons-over, row-printed}
 use borrow.Author.Needs.{needs}
 use Rattle.sheet.proofs.rows.put_polygons.Statement.{statement}

@@ -1,7 +1,7 @@
 -- `sheet::text::mesh_sheet` meets its contract: a refusal of the reading, or the answer to the job of the lists that were read. Assumes nothing.
 use mathlib.Core.Path.{sym}
 use native.Mathlib.Omega.{arith}
-use Rattle.rules.specs.Sheet.{outcomeOf, builtText, textOf}
+use Rattle.rules.specs.Sheet.{readSheet, outcomeOf, builtText, textOf}
 use Rattle.lines.specs.Printing.{printed-as}
 use Rattle.sheet.specs.Answering.{jobText}
 use Rattle.sheet.specs.Parts.{whole-part, whole-numbers}
@@ -95,7 +95,7 @@ returns c =
     let r = n .before .before .before .before .before .before in
     let s = r .before .before .before .before .before .before in
     whole-answer (c .before .put-refused-arg .given .0 .1) (refused-room (n .n .given .0 .0) (n .n .given .0 .1 .0)) (c .put-refused .ensures)
-    (bad-text (λ t. builtText t (outcomeOf (t .job))) (s .args .text .now) (bad-as (r .read-sheet .ensures) (n .n .given .1)))
+    (bad-text readSheet (λ t. builtText t (outcomeOf (t .job))) (s .args .text .now) (bad-as (r .read-sheet .ensures) (n .n .given .1)))
 
 returns-2 : tie.Need-returns-2
 unfolding textOf jobText
@@ -103,7 +103,7 @@ returns-2 c =
     let x = c .before .before .before .before .before .before .before in
     let r = x .before .before .before .before .before .before in
     let s = r .before .before .before .before .before .before in
-    let p = printed-as (c .answer-job .ensures .0) (sym (taken-text (λ t. builtText t (outcomeOf (t .job))) (s .args .text .now) (read x))) in
+    let p = printed-as (c .answer-job .ensures .0) (sym (taken-text readSheet (λ t. builtText t (outcomeOf (t .job))) (s .args .text .now) (read x .same))) in
     (p, printed-counts p (c .answer-job .ensures .1) (c .before .answer-job-arg .given .0 .1))
 
 pub mesh-sheet-spec : {M : Type 1} → statement M

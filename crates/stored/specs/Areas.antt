@@ -9,7 +9,7 @@ use Rattle.rules.specs.Checks.{Lent}
 use Rattle.rules.specs.Exits.{storedPolygon, decoded}
 use Rattle.rules.specs.Areas.{sumOf, pointsOf, polygonArea, storedArea}
 use Rattle.laws.specs.Lists.{sum-append}
-use Rattle.sheet.specs.Stored.{lentOf, storedIn}
+use Rattle.stored.specs.Stored.{lentOf, storedIn}
 
 module _ {A : Type 0} (f : A → ℤ) where
   sum-one : (a : A) → sumOf f (a ∷ []) ≡ f a

@@ -1,11 +1,11 @@
--- `sheet::area::count_corners` meets its contract. The loop's invariant is `Counting`: the words so far and the corners of the rest are the corners of the
+-- `stored::corners::count_corners` meets its contract. The loop's invariant is `Counting`: the words so far and the corners of the rest are the corners of the
 -- whole row. The measure is what is left of the row. Assumes nothing.
 use Prim.Native.Nat.{_-_}
 use lib.ListN.{length}
 use borrow.Author.Needs.{needs}
-use Rattle.sheet.proofs.Corners.{Counting, counting-none, counting-more, counted-there, counted-all}
-use Rattle.sheet.proofs.area.count_corners.Statement.{statement}
-use Rattle.sheet.proofs.area.count_corners.Tie as tie
+use Rattle.stored.proofs.Counting.{Counting, counting-none, counting-more, counted-there, counted-all}
+use Rattle.stored.proofs.corners.count_corners.Statement.{statement}
+use Rattle.stored.proofs.corners.count_corners.Tie as tie
 
 abbrev Inv-loop : tie.InvT-loop
 Inv-loop row c₀ c = Counting row c

@@ -14,7 +14,7 @@ use Rattle.rules.specs.Checks.{vertexStride}
 use Rattle.rules.specs.declared.Point.{Point}
 use Rattle.laws.specs.Lists.{All, all-head, all-tail, all-of, getD-map-in}
 use Rattle.plane.specs.Points.{pointOf, pointsIn, GridWords}
-use Rattle.sheet.specs.Stored.{placeIn, placesOf, placeWords, PolygonReady}
+use Rattle.stored.specs.Stored.{placeIn, placesOf, placeWords, PolygonReady}
 
 pub many-places : (vs cs : List ℕ) → length (placesOf vs cs) ≡ length cs
 unfolding placesOf

@@ -1,10 +1,10 @@
--- `sheet::area::polygon_area` meets its contract: the words that are measured are the places' alone, and read back as these. Assumes nothing.
+-- `stored::area::polygon_area` meets its contract: the words that are measured are the places' alone, and read back as these. Assumes nothing.
 use mathlib.Core.Path.{_∙_}
 use borrow.Author.Needs.{needs}
 use Rattle.ints.specs.Machine.{reads-result}
-use Rattle.sheet.proofs.Places.{words-many, words-grid, words-area}
-use Rattle.sheet.proofs.area.polygon_area.Statement.{statement}
-use Rattle.sheet.proofs.area.polygon_area.Tie as tie
+use Rattle.stored.proofs.Places.{words-many, words-grid, words-area}
+use Rattle.stored.proofs.area.polygon_area.Statement.{statement}
+use Rattle.stored.proofs.area.polygon_area.Tie as tie
 
 slice-aggregate-put-places : tie.Need-slice-aggregate-put-places
 slice-aggregate-put-places c = search needs

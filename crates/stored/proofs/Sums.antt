@@ -1,5 +1,5 @@
--- The areas of the stored polygons are added up in an i64: after i turns the sum is the area of the first i. A polygon of at most 12 corners has an area within
--- 12 · 2147352578, so that the sum of 65,535 of them fits. Assumes nothing.
+-- The areas of the stored polygons are added up in an i64: after i turns the sum is the area of the first i. A polygon of at most 12 corners has an area
+-- within 12 · 2147352578, so that the sum of 65,535 of them fits. Assumes nothing.
 use mathlib.Core.Path.{_≡_, refl, _∙_, ap}
 use mathlib.Core.List.{List, [], _∷_, map}
 use Prim.Native.Nat.{ℕ, _+_, _*_, _≤_, _<_}
@@ -22,11 +22,11 @@ use Rattle.rules.specs.Exits.{vertexOf, upToNone, storedPolygon, decoded}
 use Rattle.rules.specs.Areas.{sumOf, pointsOf, polygonArea, storedArea}
 use Rattle.rules.specs.declared.Point.{Point}
 use Rattle.laws.specs.Lists.{All, all-head, all-tail, all-of, map-same}
+use Rattle.laws.specs.HandedWords.{up-to-few}
 use Rattle.plane.specs.Sizes.{D-within}
-use Rattle.sheet.specs.Stored.{lentOf, storedIn, storedVertices, placeIn, placesOf, PolygonReady, MeshReady}
-use Rattle.sheet.specs.Areas.{sum-more}
-use Rattle.sheet.proofs.Corners.{corners-short}
-use Rattle.sheet.proofs.Places.{many-places, places-grid}
+use Rattle.stored.specs.Stored.{lentOf, storedIn, storedVertices, placeIn, placesOf, PolygonReady, MeshReady}
+use Rattle.stored.specs.Areas.{sum-more}
+use Rattle.stored.proofs.Places.{many-places, places-grid}
 
 -- ---- how large a polygon's area is
 
@@ -61,7 +61,7 @@ module _ {nvp n k : ℕ} {vs ps : List ℕ} (g : MeshReady nvp n k vs ps) (i : �
 
   pub polygon-ready : PolygonReady vs (upToNone (view ps (i * nvp) nvp))
   polygon-ready = record {
-    few = omega (arith, corners-short (view ps (i * nvp) nvp), length-view ps (i * nvp) nvp row-end, g .most);
+    few = omega (arith, up-to-few (view ps (i * nvp) nvp), length-view ps (i * nvp) nvp row-end, g .most);
     inside = λ c a. omega (arith, g .corners i c h a, g .vertices);
     grid = λ c a. (g .x _ (g .corners i c h a), g .z _ (g .corners i c h a));
   }

@@ -1,4 +1,4 @@
--- `sheet::area::mesh_area` meets its contract. The loop's invariant is `Summed`: the sum is the area of the polygons so far. The measure is what is left of
+-- `stored::area::mesh_area` meets its contract. The loop's invariant is `Summed`: the sum is the area of the polygons so far. The measure is what is left of
 -- the polygons. Assumes nothing.
 use mathlib.Core.Path.{_≡_, _∙_, ap}
 use mathlib.Core.List.{List}
@@ -12,11 +12,11 @@ use Rattle.ints.specs.Machine.{Reads, reads-of}
 use Rattle.mem.specs.Slice.{view}
 use Rattle.rules.specs.Exits.{upToNone}
 use Rattle.rules.specs.Plane.{area}
-use Rattle.sheet.specs.Stored.{placesOf}
-use Rattle.sheet.proofs.Corners.{count-most, corners-there}
-use Rattle.sheet.proofs.Sums.{row-end, polygon-ready, Summed, summed-none, summed-all, add-needs, summed-more}
-use Rattle.sheet.proofs.area.mesh_area.Statement.{statement}
-use Rattle.sheet.proofs.area.mesh_area.Tie as tie
+use Rattle.stored.specs.Stored.{placesOf}
+use Rattle.stored.specs.Counts.{count-most, corners-there}
+use Rattle.stored.proofs.Sums.{row-end, polygon-ready, Summed, summed-none, summed-all, add-needs, summed-more}
+use Rattle.stored.proofs.area.mesh_area.Statement.{statement}
+use Rattle.stored.proofs.area.mesh_area.Tie as tie
 
 abbrev Inv-loop : tie.InvT-loop
 Inv-loop nvp n k vertices polygons sum₀ i₀ sum i = Summed nvp n k vertices polygons sum i

@@ -1,4 +1,4 @@
--- `sheet::area::put_places` meets its contract. The loop's invariant is `Placed`: the words of the places so far are written. The measure is what is left of
+-- `stored::area::put_places` meets its contract. The loop's invariant is `Placed`: the words of the places so far are written. The measure is what is left of
 -- the corners. Assumes nothing.
 use Prim.Native.Nat.{_-_}
 use native.Mathlib.Omega.{arith}
@@ -6,9 +6,9 @@ use lib.ListN.{length, length-set}
 use mir.Facts.{fits-widen}
 use borrow.Author.Needs.{needs}
 use Rattle.mem.specs.Packed.{laid-none}
-use Rattle.sheet.proofs.Places.{Placed, placed-more, placed-all}
-use Rattle.sheet.proofs.area.put_places.Statement.{statement}
-use Rattle.sheet.proofs.area.put_places.Tie as tie
+use Rattle.stored.proofs.Places.{Placed, placed-more, placed-all}
+use Rattle.stored.proofs.area.put_places.Statement.{statement}
+use Rattle.stored.proofs.area.put_places.Tie as tie
 
 abbrev Inv-loop : tie.InvT-loop
 Inv-loop vertices corners pts₀ c₀ pts c = Placed vertices corners pts₀ pts c

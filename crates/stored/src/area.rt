@@ -1,27 +1,13 @@
 // The doubled area of the stored polygons.
 ghost use mathlib.Core.Path.{_≡_};
-ghost use lib.ListN.{length, take};
 ghost use Rattle.mem.specs.Slice.{splice};
 ghost use Rattle.mem.specs.Packed.{packed};
 ghost use Rattle.rules.specs.Plane.{area};
-ghost use Rattle.rules.specs.Exits.{upToNone};
 ghost use Rattle.rules.specs.Areas.{storedArea};
-ghost use Rattle.sheet.specs.Stored.{storedIn, placesOf, placeWords, PlacesReady, PolygonReady, MeshReady};
+ghost use Rattle.stored.specs.Stored.{storedIn, placesOf, placeWords, PlacesReady, PolygonReady, MeshReady};
+use crate::corners::count_corners;
 use plane::measure::doubled_area;
-
-// How many of a stored polygon's words are corners: those before the first 65,535.
-pub fn count_corners(row: &[u16]) -> usize
-    ensures { λ r. ⌜ (r ≡ length (upToNone (now (row .entry)))) × (take r (now (row .entry)) ≡ upToNone (now (row .entry))) ⌝ }
-{
-    let mut c = 0;
-    while c < row.len() {
-        if row[c] == 65535 {
-            break;
-        }
-        c += 1;
-    }
-    c
-}
+use rules::VERTEX_STRIDE;
 
 // The places of these corners go to the beginning of pts, as words x, z, x, z, ..
 fn put_places(vertices: &[u16], corners: &[u16], pts: &mut [u32])
@@ -30,7 +16,7 @@ fn put_places(vertices: &[u16], corners: &[u16], pts: &mut [u32])
 {
     let mut c = 0;
     while c < corners.len() {
-        let v = corners[c] as usize * 3;
+        let v = corners[c] as usize * VERTEX_STRIDE;
         pts[c * 2] = vertices[v] as u32;
         pts[c * 2 + 1] = vertices[v + 2] as u32;
         c += 1;

@@ -3,15 +3,13 @@
 use mathlib.Core.Path.{_≡_, refl, sym, _∙_, ap}
 use mathlib.Core.List.{List, [], _∷_, _++_, append-nil}
 use mathlib.Core.Logic.{_≢_}
-use Prim.Native.Nat.{ℕ, suc, _+_, _≤_, _<_}
+use Prim.Native.Nat.{ℕ, _+_, _≤_, _<_}
 use native.Mathlib.Numerals.{add-one}
 use native.Mathlib.Omega.{arith}
 use borrow.Author.Tests.{eq-eqb, ne-eqb}
 use lib.ListN.{length, take, drop, getD, drop-of-length-le}
-use lib.Dec.{eqb}
-use lib.Seq.{drop-cons, append-snoc, length-take-le, take-take}
-use Rattle.ints.specs.Bools.{cond-ind}
-use Rattle.mem.specs.Slice.{view, take-snoc, length-view}
+use lib.Seq.{drop-cons, append-snoc, length-take-le}
+use Rattle.mem.specs.Slice.{take-snoc}
 use Rattle.rules.specs.Links.{none}
 use Rattle.rules.specs.Exits.{upToNone}
 
@@ -47,22 +45,3 @@ module _ {row : List ℕ} {c : ℕ} (r : Counting row c) where
   pub counted-all : length row ≤ c → (c ≡ length (upToNone row)) × (take c row ≡ upToNone row)
   unfolding upToNone
   counted-all h = counted (ap upToNone (drop-of-length-le row {i = c} h))
-
--- ---- they stand at the beginning of their row
-
-pub corners-short : (row : List ℕ) → length (upToNone row) ≤ length row
-unfolding upToNone
-corners-short [] = omega arith
-corners-short (c ∷ cs) = cond-ind (λ (l : List ℕ). length l ≤ suc (length cs)) (eqb c none) (omega arith) (omega (arith, corners-short cs))
-
--- the row of nvp words at `from` is lent as m words, and c is its count
-module _ (ps : List ℕ) (from nvp m c : ℕ) (e : m ≡ nvp) (h : from + nvp ≤ length ps)
-    (r : (c ≡ length (upToNone (view ps from m))) × (take c (view ps from m) ≡ upToNone (view ps from m))) where
-  pub count-most : c ≤ nvp
-  count-most = omega (arith, rw e at (r .0), corners-short (view ps from nvp), length-view ps from nvp h)
-
-  -- the corners are lent as j words
-  pub corners-there : (j : ℕ) → j ≡ c → view ps from j ≡ upToNone (view ps from nvp)
-  corners-there j q =
-      let s : take c (view ps from nvp) ≡ upToNone (view ps from nvp) = rw e at (r .1) in
-      rw q (sym (take-take c nvp (drop from ps) count-most) ∙ s)

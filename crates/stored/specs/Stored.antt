@@ -1,4 +1,4 @@
--- A stored mesh in the lent buffers, as the sheet reads it. Definitions only.
+-- A stored mesh in lent buffers, as those who measure or print it read it. Definitions only.
 use mathlib.Core.List.{List, [], _∷_, map}
 use Prim.Native.Nat.{ℕ, _+_, _*_, _≤_, _<_}
 use lib.ListN.{length, getD}
