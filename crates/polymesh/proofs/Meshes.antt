@@ -14,6 +14,7 @@ use Rattle.rules.specs.Replies.{writesNothing}
 use Rattle.rules.specs.Build.{Outcome, refused, built, addAll, afterCheck, outcome, replyOf, answer}
 use Rattle.rules.specs.Exits.{wiped, onlyWiped, filled, exitOf, exits}
 use Rattle.rules.specs.Widths.{Widths}
+use Rattle.rules.specs.Checker.{OwnAccepted}
 use Rattle.rules.specs.declared.Found.{Found}
 use Rattle.rules.specs.declared.Found.the-variants.{At, Nothing}
 use Rattle.rules.specs.declared.Header.{Header}
@@ -24,10 +25,23 @@ use Rattle.rules.specs.declared.Reply.{Reply}
 use Rattle.rules.specs.declared.Reply.the-variants.{Refused}
 use Rattle.laws.specs.Checks.{Passed, checked, agreed}
 use Rattle.laws.specs.Widths.{written-fits}
+use Rattle.laws.specs.Own.{each-accepted}
 use Rattle.polymesh.specs.Layout.{wordsOf}
 use Rattle.polymesh.specs.Gather.{Admitted, comesTo}
 use Rattle.polymesh.specs.Build.{Room, BuildReady, lending, BuiltTo}
 use Rattle.polymesh.proofs.Builds.{quiet}
+
+-- ---- what the function that users call ends with
+
+-- the answer and the buffers at exit are the rules'; so a mesh is one that the checker accepts
+abbrev pub Ended : Header → Job → Lent → Answer → Lent → Type 0
+Ended h j b a u = (a ≡ answer h j b) × ((u ≡ exits j b) × OwnAccepted j (a .reply) u)
+
+ended : (h : Header) (j : Job) (b : Lent) {a : Answer} {u : Lent} → a ≡ answer h j b → u ≡ exits j b → Ended h j b a u
+unfolding answer
+ended h j b {a} p q =
+    let x : a .reply ≡ replyOf (outcome j b) = ap (λ (y : Answer). y .reply) p in
+    (p, (q, rw (x, q) (each-accepted j b)))
 
 -- ---- a check that refuses writes nothing
 
@@ -70,10 +84,19 @@ quiet-check j ls =
     (quiet-or _ _ (quiet-at BadFlag (λ k. refl) (firstBadFlag j))
     (quiet-or _ _ (quiet-if _ (TooManyVertices (countV j)) refl) (quiet-at ShortBuffer (λ k. refl) (firstShort ls (leastLengths j)))))))
 
+refused-answer : (h : Header) (j : Job) (b : Lent) {r : Refusal} → check j (lengthsOf b) ≡ refusal r
+    → _≡_ {A = Answer} (record { reply = Refused r; header = h }) (answer h j b)
+unfolding answer outcome afterCheck replyOf
+refused-answer h j b e = rw e
+
+refused-exit : (j : Job) (b : Lent) {r : Refusal} → check j (lengthsOf b) ≡ refusal r → b ≡ exits j b
+unfolding outcome afterCheck exits exitOf
+refused-exit j b {r} e =
+    sym (ap (λ (c : Checked). exitOf j b (afterCheck j c)) e ∙ ap (λ (q : Bool). cond q b (onlyWiped j b)) (quiet-check j (lengthsOf b) r e))
+
 pub refused-all : (h : Header) (j : Job) (b : Lent) {r : Refusal} → check j (lengthsOf b) ≡ refusal r
-    → (_≡_ {A = Answer} (record { reply = Refused r; header = h }) (answer h j b)) × (b ≡ exits j b)
-unfolding answer outcome afterCheck replyOf exits exitOf
-refused-all h j b {r} e = (rw e, sym (ap (λ (c : Checked). exitOf j b (afterCheck j c)) e ∙ ap (λ (q : Bool). cond q b (onlyWiped j b)) (quiet-check j (lengthsOf b) r e)))
+    → Ended h j b (record { reply = Refused r; header = h }) b
+refused-all h j b e = ended h j b (refused-answer h j b e) (refused-exit j b e)
 
 -- ---- a job that passes
 
@@ -135,11 +158,11 @@ module _ (j : Job) (b : Lent) (p : check j (lengthsOf b) ≡ passed) {v t : ℕ}
       e ∙ ap (splice (b .work) 0) (splice-whole part (replicate (4096 + 128 * countV j) 0) (length-replicate _ _ ∙ sym k))
 
   pub built-all : (h : Header) {u : Lent} {r : Reply} → BuiltTo j (lending b part) u r → {x : List ℕ} → x ≡ splice (b .work) 0 (u .work)
-      → (_≡_ {A = Answer} (record { reply = r; header = h }) (answer h j b)) × (lending u x ≡ exits j b)
+      → Ended h j b (record { reply = r; header = h }) (lending u x)
   unfolding answer exits
   built-all h {u} {r} g {x} e =
       let o = work-wiped (comesTo j) (quiet j (addAll j)) in
-      let z : x ≡ wiped j (b .work) = all-zero (e ∙ ap (λ (y : Lent). splice (b .work) 0 (y .work)) (g .exit) ∙ ap (splice (b .work) 0) (o .0)) in (
-        ap (λ (y : Reply). record { reply = y; header = h }) (g .answer ∙ sym (ap replyOf came-to)),
-        ap₂ lending (g .exit) z ∙ sym (o .1) ∙ sym (ap (exitOf j b) came-to),
-      )
+      let z : x ≡ wiped j (b .work) = all-zero (e ∙ ap (λ (y : Lent). splice (b .work) 0 (y .work)) (g .exit) ∙ ap (splice (b .work) 0) (o .0)) in
+      ended h j b
+      (ap (λ (y : Reply). record { reply = y; header = h }) (g .answer ∙ sym (ap replyOf came-to)))
+      (ap₂ lending (g .exit) z ∙ sym (o .1) ∙ sym (ap (exitOf j b) came-to))

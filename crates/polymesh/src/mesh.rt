@@ -2,6 +2,7 @@
 ghost use mathlib.Core.Path.{_≡_};
 ghost use Rattle.rules.specs.Build as Rules;
 ghost use Rattle.rules.specs.Exits.{exits};
+ghost use Rattle.rules.specs.Checker.{OwnAccepted};
 ghost use Rattle.checks.specs.Answers.{jobOf};
 ghost use Rattle.outputs.specs.Ready.{buffers};
 use crate::build::build;
@@ -37,6 +38,10 @@ pub fn into_polygon_mesh(
 ) -> Answer
     ensures answer { λ r. ⌜ r ≡ Rules.answer header (jobOf nvp w h border (now (lengths .entry)) (now (regions .entry)) (now (codes .entry)) (now (numbers .entry))) (buffers (now (vertices .entry)) (now (polygons .entry)) (now (neighbours .entry)) (now (polyregions .entry)) (now (polycodes .entry)) (now (flags .entry)) (now (work .entry))) ⌝ }
     ensures words { λ _. ⌜ buffers (now (vertices .exit)) (now (polygons .exit)) (now (neighbours .exit)) (now (polyregions .exit)) (now (polycodes .exit)) (now (flags .exit)) (now (work .exit)) ≡ exits (jobOf nvp w h border (now (lengths .entry)) (now (regions .entry)) (now (codes .entry)) (now (numbers .entry))) (buffers (now (vertices .entry)) (now (polygons .entry)) (now (neighbours .entry)) (now (polyregions .entry)) (now (polycodes .entry)) (now (flags .entry)) (now (work .entry))) ⌝ }
+    ensures accepted { λ r. ⌜ OwnAccepted (jobOf nvp w h border (now (lengths .entry)) (now (regions .entry)) (now (codes .entry)) (now (numbers .entry)))
+        (r .reply)
+        (buffers (now (vertices .exit)) (now (polygons .exit)) (now (neighbours .exit)) (now (polyregions .exit)) (now (polycodes .exit)) (now (flags .exit))
+        (now (work .exit))) ⌝ }
 {
     let have = [
         vertices.len(),

@@ -53,7 +53,7 @@ returns c =
         c .put-answer .ensures .1 ∙ ap (λ (y : Reply). answerWords y (c .before .before .before .before .before .before .before .before .before .before .before .before .before .before .before .before .before .before .before .before .before .before .before .before .before .before .before .before .before .before .before .before .before .before .before .before .before .before .before .before .before .args .inches)) q,
         (
           c .before .before .put-header .ensures ∙ ap headerWords (ap (λ (a : Answer). a .header) e ∙ c .before .before .before .before .before .before .before .before .before .before .before .before .before .before .before .before .before .before .before .before .before .before .before .before .before .before .before .header-from .ensures) ∙ header-back (c .before .before .before .before .before .before .before .before .before .before .before .before .before .before .before .before .before .before .before .before .before .before .before .before .before .before .before .before .before .before .before .before .before .before .before .before .before .before .before .before .before .args .inches) (c .before .before .before .before .before .before .before .before .before .before .before .before .before .before .before .before .before .before .before .before .before .before .before .before .before .before .before .before .before .before .before .before .before .before .before .before .before .before .before .before .before .args .header .now) (c .before .before .before .put-header-arg .given .0 .1),
-          c .before .before .before .before .before .before .before .before .before .before .before .before .before .before .before .before .before .before .before .into-polygon-mesh .ensures .1,
+          c .before .before .before .before .before .before .before .before .before .before .before .before .before .before .before .before .before .before .before .into-polygon-mesh .ensures .1 .0,
         ),
       ),
     )

@@ -22,7 +22,7 @@ called : (c : tie.After-into-polygon-mesh) → Called (withLists (sheetOf (c .be
 unfolding withLists sheetOf lengthsOf countAll
 called c = record {
   answered = c .into-polygon-mesh .ensures .0;
-  left = c .into-polygon-mesh .ensures .1;
+  left = c .into-polygon-mesh .ensures .1 .0;
   long = refl;
   few = c .before .before .before .before .before .before .before .before .before .before .before .before .before .before .pre .few;
 }
