@@ -1,11 +1,11 @@
 /* Mittencrest: contours in, a polygon mesh out.
  *
  * The functions below are proved: for any numbers at all the build ends with the mesh that document 01's rules give, or with the
- * first refusal that applies, and a refusal writes to no output buffer; the mender likewise. What they do is said in crates/rules;
- * what is promised of each, in docs/PROMISES.md.
+ * first refusal that applies, and a refusal writes to no output buffer; the mender and the checker do what document 02's requests say,
+ * likewise. What they do is said in crates/rules; what is promised of each, in docs/PROMISES.md.
  *
  * `rt staticlib capi` writes target/staticlib/libcapi.a, for x86-64. A slice is a pointer and its count of elements. The pointer of
- * an empty one may be null. Slices must not overlap, but for the four that are only read.
+ * an empty one may be null. Slices must not overlap, but for those that are only read.
  */
 #ifndef MITTENCREST_H
 #define MITTENCREST_H
@@ -146,6 +146,45 @@ uint32_t mittencrest_mend_job_v1(uint32_t *lengths, size_t lengths_count,
                                  uint32_t *lost, size_t lost_count,
                                  uint32_t *work, size_t work_count,
                                  uint64_t answer[3]);
+
+/* The checker's verdicts. They are looked for in this order, each in the whole mesh, and the first that applies is given. */
+enum {
+    MITTENCREST_ACCEPTED = 0,     /* second number: 0 */
+    MITTENCREST_BAD_BUFFERS = 40, /* not whole vertices or polygons, not a link a corner, nvp not 3 to 12, x or z above 32,767, too many; 0 */
+    MITTENCREST_BAD_CORNERS = 41, /* a corner is no vertex, a polygon has under 3, or something but 65,535 stands behind them; the first polygon */
+    MITTENCREST_BAD_LINKS = 42,   /* a link isn't named back, or names no other polygon of the mesh; the first polygon that holds such a link */
+    MITTENCREST_BAD_PORTALS = 43, /* an open side bears something else than its place on the grid gives; the first polygon with such a side */
+    MITTENCREST_BAD_AREA = 44     /* the doubled areas don't sum to the claim; 0 */
+};
+
+enum {
+    /* places in the checker's `answer`: MITTENCREST_REPLY, MITTENCREST_SECOND and MITTENCREST_THIRD, which is 0 */
+    MITTENCREST_VERDICT_LENGTH = 3
+};
+
+/* Checks a mesh, from elsewhere or from here. Any numbers may be handed in; nothing is written but `answer`.
+ *
+ *   nvp            how many corners and links a polygon has in the lists, used or not, 3 to 12
+ *   w, h, border   the grid's width and height, and its border
+ *   claim          the sum of the doubled areas that the mesh is said to have, in cells, with its sign
+ *   vertices       three for each vertex, used or not: x, y and z. At most 65,535 vertices
+ *   polygons       nvp corners a polygon, 65,535 behind the last. At most 65,535 polygons
+ *   links          for each corner the link of the side that begins there
+ *
+ * The lists are exactly the mesh: a buffer of mittencrest_build_v1 is handed on cut to the counts of its reply. A mesh is accepted exactly
+ * if every polygon has 3 to nvp corners, all of them vertices, and 65,535 behind them; the link of each side from a to b is 65,535 to 65,539,
+ * or names another polygon that has a side from b to a whose link names this one; links behind the last corner are 65,535; a side that
+ * names none bears what the build's R7 gives: with a border 65,536 to 65,539 if both its ends are on x = 0, z = h, x = w or z = 0, tried in
+ * this order, else 65,535; and the doubled areas sum to the claim. A corner twice, a side from a vertex to itself, open sides that could be
+ * joined and any y are no fault. Every mesh that mittencrest_build_v1 builds is accepted with its own total.
+ *
+ * The result is the verdict's number. `answer` is written whatever it is, and must not overlap with the lists, which may overlap.
+ */
+uint32_t mittencrest_check_v1(uint32_t nvp, uint16_t w, uint16_t h, uint16_t border, int64_t claim,
+                              const uint16_t *vertices, size_t vertices_count,
+                              const uint16_t *polygons, size_t polygons_count,
+                              const uint32_t *links, size_t links_count,
+                              uint64_t answer[3]);
 
 /* The squared distance on the plane from the point p to the segment from a to b, one rounding for each operation. */
 float mittencrest_distance_v1(uint16_t px, uint16_t pz, uint16_t ax, uint16_t az, uint16_t bx, uint16_t bz);

@@ -14,7 +14,7 @@ use Rattle.rules.specs.declared.Refusal.{Refusal}
 use Rattle.rules.specs.declared.Refusal.the-variants.{BadCornerLimit, CountsDisagree, HighCoordinate, BadFlag, TooManyVertices, ShortBuffer, NoEarInContour, NoEarInHole}
 use Rattle.rules.specs.declared.Reply.{Reply}
 use Rattle.rules.specs.declared.Reply.the-variants.{Built, Refused}
-use Rattle.capi.specs.Numbers.{headerLength, answerLength, mendedLength, numberAt, headerFrom, sizeNumber, headerWords, answerWords}
+use Rattle.capi.specs.Numbers.{headerLength, answerLength, threeLength, numberAt, headerFrom, sizeNumber, headerWords, answerWords}
 
 module _ {A : Type 0} where
   -- all places from the first on
@@ -33,7 +33,7 @@ unfolding setEach
 four w a b c d l = written w a (b ∷ c ∷ d ∷ []) l
 
 -- three
-pub three : {A : Type 0} (w : List A) (a b c : A) → length w ≡ mendedLength → set (set (set w 0 a) 1 b) 2 c ≡ a ∷ b ∷ c ∷ []
+pub three : {A : Type 0} (w : List A) (a b c : A) → length w ≡ threeLength → set (set (set w 0 a) 1 b) 2 c ≡ a ∷ b ∷ c ∷ []
 unfolding setEach
 three w a b c l = written w a (b ∷ c ∷ []) l
 

@@ -22,9 +22,9 @@ headerLength = 9
 abbrev pub answerLength : ℕ
 answerLength = 4
 
--- and the mender's
-abbrev pub mendedLength : ℕ
-mendedLength = 3
+-- and that of the mender and of the checker
+abbrev pub threeLength : ℕ
+threeLength = 3
 
 -- number k of the nine
 unfoldable pub numberAt : List Float → ℕ → Float

@@ -1,28 +1,17 @@
 // The mender.
-ghost use mathlib.Core.List.{[], _∷_};
 ghost use mathlib.Core.Path.{_≡_};
 ghost use lib.ListN.{length, getD};
 ghost use Rattle.rules.specs.MendCall.{mendOutcome, mendReplyOf, mendWords, mendExit, oneContour};
 ghost use Rattle.mend.specs.Call.{lentOf};
-ghost use Rattle.capi.specs.Numbers.{mendedLength};
+ghost use Rattle.capi.specs.Numbers.{threeLength};
+use crate::three::put_three;
 use mend::job::mend;
 use mend::job::mend_job;
 use rules::MendReply;
 
-// The three numbers are these; the result is the first.
-fn put_three(words: &mut [u64], number: u32, second: u64, third: u64) -> u32
-    requires { ⌜ length (now words) ≡ mendedLength ⌝ }
-    ensures { λ r. ⌜ (r ≡ number) × (now (words .exit) ≡ (number ∷ second ∷ third ∷ [])) ⌝ }
-{
-    words[0] = number as u64;
-    words[1] = second;
-    words[2] = third;
-    number
-}
-
 // The numbers of a mender's reply; the result is the reply's number.
 fn put_mended(reply: MendReply, words: &mut [u64]) -> u32
-    requires { ⌜ length (now words) ≡ mendedLength ⌝ }
+    requires { ⌜ length (now words) ≡ threeLength ⌝ }
     ensures { λ r. ⌜ (r ≡ getD (mendWords reply) 0 0) × (now (words .exit) ≡ mendWords reply) ⌝ }
 {
     match reply {

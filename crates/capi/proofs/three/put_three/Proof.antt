@@ -1,11 +1,11 @@
--- `capi::mender::put_three` meets its contract: three numbers, one after the other. Assumes nothing.
+-- `capi::three::put_three` meets its contract: three numbers, one after the other. Assumes nothing.
 use mathlib.Core.Path.{refl}
 use Rattle.capi.proofs.Written.{three}
 use borrow.Author.Needs.{needs}
-use Rattle.capi.proofs.mender.put_three.Statement.{statement}
-use Rattle.capi.proofs.mender.put_three.Tie as tie
-use Rattle.capi.proofs.mender.put_three.Reads as reads
-use Rattle.capi.proofs.mender.put_three.Lts as lts
+use Rattle.capi.proofs.three.put_three.Statement.{statement}
+use Rattle.capi.proofs.three.put_three.Tie as tie
+use Rattle.capi.proofs.three.put_three.Reads as reads
+use Rattle.capi.proofs.three.put_three.Lts as lts
 
 slice-write-words : tie.Need-slice-write-words
 slice-write-words c = search needs
