@@ -1,6 +1,6 @@
--- The cells of a line, one behind the other: the first one from a place on ends at the tab that is found, or at the line's end. The loops that count them and that
--- go to the last one. Assumes nothing.
-use mathlib.Core.Path.{_≡_, refl, sym, ap, _∙_}
+-- The cells of a line, one behind the other: the first one from a place on ends at the tab that is found, or at the line's end. The loops that count them, and
+-- that go to the last one. Assumes nothing.
+use mathlib.Core.Path.{_≡_, refl, ap, _∙_}
 use mathlib.Core.Bool.{cond}
 use mathlib.Core.List.{List, [], _∷_, _++_}
 use mathlib.Core.Logic.{⊎-elim}

@@ -147,7 +147,8 @@ module _ {line name : List ℕ} {least : ℕ} {mosts v values : List ℕ} {at i 
     -- a cell is too many
     too-many : at ≢ length line → RowRead name least mosts (parts tabByte line) false v values
     too-many n =
-        ended (rw (drop-of-length-le mosts {i = i} h, cells-more line at (omega (arith, s .within))) (in-over least _ (parts-some tabByte (drop (at + 1) line)))) all
+        ended
+        (rw (drop-of-length-le mosts {i = i} h, cells-more line at (omega (arith, s .within))) (in-over least _ (parts-some tabByte (drop (at + 1) line)))) all
 
     well : at ≡ length line → RowRead name least mosts (parts tabByte line) true v values
     unfolding numbersIn areNumbers

@@ -43,7 +43,8 @@ module _ (most : ℕ) where
   without (c ∷ cs) h = plain-cons c cs (h (omega arith))
 
 -- ---- what its decimal makes of it
-pub value-fits : (least most : ℕ) {n : ℕ} (cell : List ℕ) → most ≤ 9223372036854775807 → {d : Decimal} → d ≡ decimalIn least most cell → d ≡ Value n → SFits w64 (pos n)
+pub value-fits : (least most : ℕ) {n : ℕ} (cell : List ℕ) → most ≤ 9223372036854775807 → {d : Decimal} → d ≡ decimalIn least most cell → d ≡ Value n
+    → SFits w64 (pos n)
 value-fits least most {n} cell h e q = record { sfits = omega (arith, value-in least most n cell (sym e ∙ q)) }
 
 said : {n : ℕ} → SFits w64 (pos n) → toZ w64 n ≡ pos n

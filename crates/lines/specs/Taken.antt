@@ -1,6 +1,7 @@
 -- What is known of a line that was read: which line of the text it is, its numbers, and what its reader's answer tells. Assumes nothing.
 -- Key: `line-at`, `line-open`, `line-missing`: the line at a place; `taken`: a line with numbers is the first of the lines from its place on; `numbers-long`,
--- `numbers-most`: its numbers keep their limits; `row-good`, `row-bad`: all of it, from the answer of `read_row`; `good-read`, `bad-read`: from that of `read_line`.
+-- `numbers-most`: its numbers keep their limits; `row-good`, `row-bad`: all of it, from the answer of `read_row`; `good-read`, `bad-read`: from that of
+-- `read_line`.
 use mathlib.Core.Path.{_≡_, refl, sym, ap, _∙_}
 use mathlib.Core.Bool.{Bool, true, false, _&&_, cond, true≢false}
 use mathlib.Core.List.{List, [], _∷_}
@@ -166,16 +167,19 @@ unfolding numbersIn goodIn
 good-in least [] [] ns e = cc
 good-in least [] (c ∷ cs) ns e = let z : _≡_ {A = ℕ} 0 1 = cc in absurd (omega arith)
 good-in least (m ∷ ms) [] ns e = let z : _≡_ {A = ℕ} 0 1 = cc in absurd (omega arith)
-good-in least (m ∷ ms) (c ∷ cs) ns e = (elim (decimalIn least m c) as (λ (d : Decimal). (elim d [ Value n ↦ withNumber n (numbersIn least ms cs) | Malformed ↦ malformed ]) ≡ numbers ns
+good-in least (m ∷ ms) (c ∷ cs) ns e = (elim (decimalIn least m c) as (λ (d : Decimal).
+    (elim d [ Value n ↦ withNumber n (numbersIn least ms cs) | Malformed ↦ malformed ]) ≡ numbers ns
     → (elim d [ Value n ↦ n ∷ goodIn least ms cs | Malformed ↦ [] ]) ≡ ns) [
       | Value n ↦ λ f. good-next n (goodIn least ms cs) ns (numbersIn least ms cs) (λ ks g. good-in least ms cs ks g) f
       | Malformed ↦ λ f. let z : _≡_ {A = ℕ} 0 1 = cc in absurd (omega arith)
     ]) e
 
-pub good-all : (name : List ℕ) (least : ℕ) (mosts : List ℕ) (l : Line) (ns : List ℕ) → numbersOf name least mosts l ≡ numbers ns → goodOf name least mosts l ≡ ns
+pub good-all : (name : List ℕ) (least : ℕ) (mosts : List ℕ) (l : Line) (ns : List ℕ) → numbersOf name least mosts l ≡ numbers ns
+    → goodOf name least mosts l ≡ ns
 unfolding numbersOf goodOf
 good-all name least mosts [] ns e = let z : _≡_ {A = ℕ} 0 1 = cc in absurd (omega arith)
-good-all name least mosts (c ∷ cs) ns e = (elim (isSameText c name) as (λ (t : Bool). elim t [ true ↦ numbersIn least mosts cs | false ↦ malformed ] ≡ numbers ns
+good-all name least mosts (c ∷ cs) ns e = (elim (isSameText c name) as (λ (t : Bool).
+    elim t [ true ↦ numbersIn least mosts cs | false ↦ malformed ] ≡ numbers ns
     → elim t [ true ↦ goodIn least mosts cs | false ↦ [] ] ≡ ns) [
       | true ↦ good-in least mosts cs ns
       | false ↦ λ f. let z : _≡_ {A = ℕ} 0 1 = cc in absurd (omega arith)

@@ -11,7 +11,8 @@ use lib.Seq.{drop-drop}
 use borrow.Author.Tests.{eqb-true, eq-eqb}
 use Rattle.ints.specs.Bools.{and-left, and-right}
 use Rattle.rules.specs.Lines.{ascii, tabByte, lf, isSameText, onFirst, parts, Line, linesOf, malformed}
-use Rattle.rules.specs.Sheet.{Sheet, Read, bad, unitName, mmName, inName, cellName, nvpName, gridName, lineAt, need, needUnit, cellNumbers, nvpNumbers, gridNumbers, cellLeast, cellMost, numberMost, headingLines, noContours, readHeading}
+use Rattle.rules.specs.Sheet.{Sheet, Read, bad, unitName, mmName, inName, cellName, nvpName, gridName, lineAt, need, needUnit, cellNumbers, nvpNumbers}
+use Rattle.rules.specs.Sheet.{gridNumbers, cellLeast, cellMost, numberMost, headingLines, noContours, readHeading}
 use Rattle.lines.specs.declared.line.LineRead.{LineRead}
 use Rattle.lines.specs.Scan.{placeOf, parts-some}
 use Rattle.lines.specs.Read.{lineEnd, numbersAt}
@@ -120,7 +121,8 @@ module _ (text : List ℕ) {e : ℕ} (q : e ≡ 0 + placeOf lf (drop 0 text)) wh
   unfolding lineEnd
   first-line h = let x : placeOf lf text ≡ e = omega arith in let y : 0 + e + 1 ≡ e + 1 = omega arith in rw (x, y) at (line-at text 0 (omega arith))
 
-  pub unit-known : (inches : Bool) → e < length text → ((f : Bool → Read Sheet) → needUnit (parts tabByte (take e text)) f ≡ f inches) → UnitIs text (Known inches (e + 1))
+  pub unit-known : (inches : Bool) → e < length text → ((f : Bool → Read Sheet) → needUnit (parts tabByte (take e text)) f ≡ f inches)
+      → UnitIs text (Known inches (e + 1))
   unfolding UnitIs lineAt
   unit-known inches h k =
       let l = first-line h in
@@ -230,5 +232,6 @@ module _ (text : List ℕ) (p : ℕ) (inches : Bool) where
         pub all-behind : BehindIs text (drop 3 (linesOf (drop p text))) (Headed headed)
         unfolding BehindIs
         all-behind =
-            let two : drop 2 (linesOf (drop p text)) ≡ linesOf (drop (limit .next) text) = sym (drop-drop 1 1 (linesOf (drop p text))) ∙ ap (drop 1) (g .rest) ∙ h .rest in
+            let two : drop 2 (linesOf (drop p text)) ≡ linesOf (drop (limit .next) text) =
+            sym (drop-drop 1 1 (linesOf (drop p text))) ∙ ap (drop 1) (g .rest) ∙ h .rest in
             record { within = k .within; rest = sym (sym (drop-drop 1 2 (linesOf (drop p text))) ∙ ap (drop 1) two ∙ k .rest) }

@@ -25,7 +25,8 @@ use Rattle.sheet.specs.declared.read.SheetRead.the-variants.{Taken, Bad}
 
 -- what the first line is found to be: with a unit the reading goes on behind the line, and otherwise it ends there
 unfoldable pub UnitIs : List ℕ → UnitRead → Type 0
-UnitIs text (Known inches p) = ((f : Bool → Read Sheet) → needUnit (lineAt (linesOf text) 0) f ≡ f inches) × (linesOf (drop p text) ≡ drop 1 (linesOf text)) × (p ≤ length text)
+UnitIs text (Known inches p) = ((f : Bool → Read Sheet) → needUnit (lineAt (linesOf text) 0) f ≡ f inches)
+    × (linesOf (drop p text) ≡ drop 1 (linesOf text)) × (p ≤ length text)
 UnitIs text Missing = (f : Bool → Read Sheet) → needUnit (lineAt (linesOf text) 0) f ≡ bad 21 1
 
 -- the heading lines behind the first: what the lines ls come to, if they begin with the grid line, with the nvp line, with the cell line

@@ -1,6 +1,6 @@
 -- What the bytes of a sheet come to, for each way that the reading ends; and what is printed for them by f, for any f. Assumes nothing.
--- Key: `long-read`, `bad-heading`, `good-heading`, `bad-body`, `good-body`: the reading; `bad-as`, `taken-as`: its answer; `bad-text`,
--- `taken-text`: what is printed.
+-- Key: `long-read`, `bad-heading`, `good-heading`, `bad-body`, `good-body`: the reading; `bad-as`, `taken-as`: its answer; `text-read`,
+-- `bad-text`, `taken-text`: what is printed, for any reader.
 use mathlib.Core.Path.{_≡_, refl, sym, ap, subst, _∙_}
 use mathlib.Core.Bool.{Bool, true, false}
 use mathlib.Core.List.{List}
@@ -20,7 +20,8 @@ use Rattle.sheet.specs.declared.heading.HeadingRead.the-variants.{Headed
 use Rattle.sheet.specs.declared.body.Progress.{Progress}
 use Rattle.sheet.specs.declared.read.SheetRead.{SheetRead}
 use Rattle.sheet.specs.declared.read.SheetRead.the-variants.{Taken, Bad}
-use Rattle.sheet.specs.Reading.{sheetOf, headedAs, goesOn, BehindIs, Behind, withLists, endOf, BodyReady, BodyRead, bytesBy, readBytes, ListsReady, TakenAs, FoundAs, ReadAs}
+use Rattle.sheet.specs.Reading.{sheetOf, headedAs, goesOn, BehindIs, Behind, withLists, endOf, BodyReady, BodyRead}
+use Rattle.sheet.specs.Reading.{bytesBy, readBytes, ListsReady, TakenAs, FoundAs, ReadAs}
 use Rattle.sheet.specs.Room.{outMost, printed-short, printed-counts}
 
 -- ---- the bytes

@@ -4,6 +4,7 @@ use native.Mathlib.Omega.{arith}
 use lib.IntN.{ℤ}
 use mir.Facts.{toZ-ofZ}
 use Rattle.rules.specs.Checker.{verdict}
+use Rattle.rules.specs.declared.Verdict.{Verdict}
 use Rattle.checker.specs.Asked.{claimIn}
 use Rattle.capi.proofs.Checked.{number-small, verdict-words}
 use borrow.Author.Needs.{needs}
@@ -32,8 +33,8 @@ returns c =
     let at-verdict = at-number .before .before in
     let start = at-verdict .before .before .before .before in
     let a = start .args in
-    let same =
-    ap (λ (z : ℤ). verdict (claimIn (a .nvp) (a .w) (a .h) (a .border) z (a .vertices .now) (a .polygons .now) (a .links .now))) (toZ-ofZ (start .fits .claim)) in
+    let said : ℤ → Verdict = λ z. verdict (claimIn (a .nvp) (a .w) (a .h) (a .border) z (a .vertices .now) (a .polygons .now) (a .links .now)) in
+    let same = ap said (toZ-ofZ (start .fits .claim)) in
     verdict-words (at-verdict .check-mesh .ensures ∙ same) (at-number .verdict-number .ensures) (at-second .verdict-second .ensures) (c .put-three .ensures)
 
 pub mittencrest-check-v1-spec : {M : Type 1} → statement M

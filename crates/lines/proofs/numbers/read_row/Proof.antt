@@ -28,8 +28,10 @@ is-same-text-requires c κs = search needs
 loop-holds : tie.Need-loop-holds Inv-loop μ-loop
 loop-holds c =
     let m = c .before .before .before in
-    let a = m .before .before .before .before .before .args in
-    numbering-begin (a .line .now) (a .name .now) (a .least) (a .mosts .now) (a .values .now) (m .find .ensures .0) (c .before .is-same-text .ensures) (c .if1 .taken) (m .find .ensures .1)
+    let s = m .before .before .before .before .before in
+    let a = s .args in
+    numbering-begin (a .line .now) (a .name .now) (a .least) (a .mosts .now) (a .values .now) (m .find .ensures .0) (c .before .is-same-text .ensures)
+    (c .if1 .taken) (m .find .ensures .1)
 
 same-length : tie.Need-same-length Inv-loop μ-loop
 same-length c = search needs
@@ -69,9 +71,13 @@ same-length-2 c = search needs
 
 returns-2 : tie.Need-returns-2 Inv-loop μ-loop
 returns-2 c =
-    let at-find = c .before .before .before .before .before in
-    let at-turn = at-find .before .before .before in
-    numbering-bad (at-turn .loop .inv) (at-find .before .before .loop-test .taken) (at-find .before .if2 .left) (at-find .find2 .ensures .0) (c .before .before .read-decimal .ensures) (c .enum-told .given .1)
+    let at-read-decimal = c .before .before in
+    let at-find = at-read-decimal .before .before .before in
+    let at-if2 = at-find .before in
+    let at-loop-test = at-if2 .before in
+    let at-turn = at-loop-test .before in
+    numbering-bad (at-turn .loop .inv) (at-loop-test .loop-test .taken) (at-if2 .if2 .left) (at-find .find2 .ensures .0)
+    (at-read-decimal .read-decimal .ensures) (c .enum-told .given .1)
 
 enum-known-v : tie.Need-enum-known-v Inv-loop μ-loop
 enum-known-v c = search needs
@@ -90,9 +96,13 @@ loop-less c = search needs
 
 loop-again : tie.Need-loop-again Inv-loop μ-loop
 loop-again c =
-    let at-find = c .before .before .before .before .before .before in
-    let at-turn = at-find .before .before .before in
-    numbering-next (at-turn .loop .inv) (at-find .before .before .loop-test .taken) (at-find .before .if2 .left) (at-find .find2 .ensures .0) (c .before .before .before .read-decimal .ensures) (c .before .v .given .1) (at-find .find2 .ensures .1)
+    let at-read-decimal = c .before .before .before in
+    let at-find = at-read-decimal .before .before .before in
+    let at-if2 = at-find .before in
+    let at-loop-test = at-if2 .before in
+    let at-turn = at-loop-test .before in
+    numbering-next (at-turn .loop .inv) (at-loop-test .loop-test .taken) (at-if2 .if2 .left) (at-find .find2 .ensures .0)
+    (at-read-decimal .read-decimal .ensures) (c .before .v .given .1) (at-find .find2 .ensures .1)
 
 same-length-3 : tie.Need-same-length-3 Inv-loop μ-loop
 same-length-3 c = search needs

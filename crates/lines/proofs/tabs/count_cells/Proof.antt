@@ -1,6 +1,6 @@
--- `lines::tabs::count_cells` meets its contract. The loop's invariant is `Counting`: the cells are those counted, and those behind the tab at hand. Assumes nothing.
+-- `lines::tabs::count_cells` meets its contract. The loop's invariant is `Counting`: the cells are those counted, and those behind the tab at hand.
+-- Assumes nothing.
 use Prim.Native.Nat.{_-_}
-use native.Mathlib.Omega.{arith}
 use lib.ListN.{length}
 use Rattle.lines.proofs.Counting.{Counting, counting-begin, counting-next, counting-end}
 use borrow.Author.Needs.{needs}

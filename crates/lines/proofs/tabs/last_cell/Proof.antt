@@ -1,6 +1,6 @@
--- `lines::tabs::last_cell` meets its contract. The loop's invariant is `Passing`: the cells are those before the one at hand, and those from it on. Assumes nothing.
+-- `lines::tabs::last_cell` meets its contract. The loop's invariant is `Passing`: the cells are those before the one at hand, and those from it on.
+-- Assumes nothing.
 use Prim.Native.Nat.{_-_}
-use native.Mathlib.Omega.{arith}
 use lib.ListN.{length}
 use Rattle.lines.proofs.Counting.{Passing, passing-begin, passing-next, passing-end}
 use borrow.Author.Needs.{needs}

@@ -1,3 +1,4 @@
+-- `lines::whole::read_signed` meets its contract: `-` and a decimal, or a decimal alone, which fits 64 bits with its sign. Assumes nothing.
 use mathlib.Core.Logic.{_≢_, ⊎-elim}
 use Prim.Native.Nat.{_<_}
 use lib.IntN.{pos}
@@ -5,7 +6,6 @@ use lib.ListN.{length, getD}
 use mir.Syntax.{w64}
 use mir.Val.{SFits}
 use Rattle.lines.proofs.Wholes.{value-fits, turned-fits, minus-bad, minus-value, plain-bad, plain-value}
--- `lines::whole::read_signed` meets its contract: `-` and a decimal, or a decimal alone, which fits 64 bits with its sign. Assumes nothing.
 use native.Mathlib.Omega.{arith}
 use borrow.Author.Needs.{needs}
 use Rattle.lines.proofs.whole.read_signed.Statement.{statement}
@@ -13,10 +13,16 @@ use Rattle.lines.proofs.whole.read_signed.Tie as tie
 
 -- the number fits, behind `-` and alone
 behind : (c : tie.After-n) → SFits w64 (pos (c .n .given .0 .0))
-behind c = let s = c .before .before .before .before .before .before .before .before in value-fits 1 (s .args .most) _ (s .pre) (c .before .before .read-decimal .ensures) (c .n .given .1)
+behind c =
+    let at-read-decimal = c .before .before in
+    let s = at-read-decimal .before .before .before .before .before .before in
+    value-fits 1 (s .args .most) _ (s .pre) (at-read-decimal .read-decimal .ensures) (c .n .given .1)
 
 alone : (c : tie.After-n2) → SFits w64 (pos (c .n2 .given .0 .0))
-alone c = let s = c .before .before .before .before .before in value-fits 0 (s .args .most) _ (s .pre) (c .before .before .read-decimal2 .ensures) (c .n2 .given .1)
+alone c =
+    let at-read-decimal2 = c .before .before in
+    let s = at-read-decimal2 .before .before .before in
+    value-fits 0 (s .args .most) _ (s .pre) (at-read-decimal2 .read-decimal2 .ensures) (c .n2 .given .1)
 
 -- there is no `-`
 no-minus : (c : tie.Joined1) → 0 < length (c .before .before .args .cell .now) → getD (c .before .before .args .cell .now) 0 0 ≢ 45
@@ -53,15 +59,18 @@ returns : tie.Need-returns
 returns c =
     let at-read = c .before .before in
     let at-minus = at-read .before .before in
-    let s = at-minus .before .before .before .before in
-    minus-bad (s .args .most) (s .args .cell .now) (at-minus .before .before .if1 .taken) (at-minus .if2 .taken) (at-read .read-decimal .ensures) (c .enum-told .given .1)
+    let at-if1 = at-minus .before .before in
+    let s = at-if1 .before .before in
+    minus-bad (s .args .most) (s .args .cell .now) (at-if1 .if1 .taken) (at-minus .if2 .taken) (at-read .read-decimal .ensures) (c .enum-told .given .1)
 
 returns-2 : tie.Need-returns-2
 returns-2 c =
     let at-read = c .before .before .before in
     let at-minus = at-read .before .before in
-    let s = at-minus .before .before .before .before in
-    minus-value (s .args .most) (s .args .cell .now) (at-minus .before .before .if1 .taken) (at-minus .if2 .taken) (at-read .read-decimal .ensures) (c .before .n .given .1) (behind (c .before))
+    let at-if1 = at-minus .before .before in
+    let s = at-if1 .before .before in
+    minus-value (s .args .most) (s .args .cell .now) (at-if1 .if1 .taken) (at-minus .if2 .taken) (at-read .read-decimal .ensures) (c .before .n .given .1)
+    (behind (c .before))
 
 read-decimal-requires-2 : tie.Need-read-decimal-requires-2
 read-decimal-requires-2 c κs = search needs
@@ -84,8 +93,9 @@ returns-3 c =
 returns-4 : tie.Need-returns-4
 returns-4 c =
     let at-read = c .before .before .before in
-    let s = at-read .before .before .before in
-    plain-value (s .args .most) (s .args .cell .now) (no-minus (at-read .before)) (at-read .read-decimal2 .ensures) (c .before .n2 .given .1) (alone (c .before))
+    let at-a = at-read .before in
+    let s = at-a .before .before in
+    plain-value (s .args .most) (s .args .cell .now) (no-minus (at-a)) (at-read .read-decimal2 .ensures) (c .before .n2 .given .1) (alone (c .before))
 
 pub read-signed-spec : {M : Type 1} → statement M
 read-signed-spec =

@@ -13,7 +13,10 @@ enum-known-inches : tie.Need-enum-known-inches
 enum-known-inches c = search needs
 
 read-rest-requires : tie.Need-read-rest-requires
-read-rest-requires c κs = known-within (c .before .before .before .before .before .args .text .now) (c .before .before .before .read-unit .ensures) (c .before .inches .given .1)
+read-rest-requires c κs =
+    let at-read-unit = c .before .before .before in
+    let s = at-read-unit .before .before in
+    known-within (s .args .text .now) (at-read-unit .read-unit .ensures) (c .before .inches .given .1)
 
 enum-told : tie.Need-enum-told
 enum-told c = search needs
