@@ -18,7 +18,8 @@ use Rattle.lines.specs.Read.{numbersAt}
 use Rattle.lines.specs.Taken.{Good}
 use Rattle.checksheet.specs.declared.progress.Progress.{Progress}
 use Rattle.checksheet.specs.Reading.{withMesh, restBy, stoppedAt, Within, PlaceReady, PlaceRead, PlacesReady, PlacesRead}
-use Rattle.checksheet.proofs.Resting.{need-bad, need-good, rest-good, rest-bad, rest-stopped, stopped-within}
+use Rattle.sheet.specs.Needs.{need-bad, need-good}
+use Rattle.checksheet.proofs.Resting.{rest-good, rest-bad, rest-stopped, stopped-within}
 
 -- the limits of a vertex's numbers
 abbrev pub placeMosts : List ℕ

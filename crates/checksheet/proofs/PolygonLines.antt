@@ -19,7 +19,8 @@ use Rattle.lines.specs.Scan.{placeOf}
 use Rattle.checksheet.specs.declared.progress.Progress.{Progress}
 use Rattle.checksheet.specs.Reading.{withMesh, restBy, stoppedAt, Within, CornersAre, RowAtReady, LinksRead}
 use Rattle.checksheet.specs.Reading.{PolygonReady, PolygonRead, PolygonsReady, PolygonsRead}
-use Rattle.checksheet.proofs.Resting.{need-bad, need-good, rest-good, rest-bad, rest-cong, rest-stopped, stopped-within}
+use Rattle.sheet.specs.Needs.{need-bad, need-good}
+use Rattle.checksheet.proofs.Resting.{rest-good, rest-bad, rest-cong, rest-stopped, stopped-within}
 use Rattle.checksheet.proofs.Resting.{line-here, line-none, next-within}
 use Rattle.checksheet.proofs.RowLines.{corner-words, corner-count, row-more}
 

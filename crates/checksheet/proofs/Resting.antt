@@ -6,23 +6,14 @@ use Prim.Native.Nat.{ℕ, _+_, _-_, _≤_, _<_}
 use native.Mathlib.Omega.{arith}
 use lib.ListN.{length, drop}
 use Rattle.mem.specs.Slice.{view}
-use Rattle.rules.specs.Lines.{tabByte, lf, parts, Line, linesOf, Numbers, numbers, malformed}
-use Rattle.rules.specs.Sheet.{Read, bad, lineAt, need}
+use Rattle.rules.specs.Lines.{tabByte, lf, parts, Line, linesOf}
+use Rattle.rules.specs.Sheet.{Read, bad, lineAt}
 use Rattle.rules.specs.Checker.{Claim}
 use Rattle.lines.specs.Scan.{placeOf}
 use Rattle.lines.specs.Read.{lineEnd}
 use Rattle.lines.specs.Taken.{line-at, no-cells}
 use Rattle.checksheet.specs.declared.progress.Progress.{Progress}
 use Rattle.checksheet.specs.Reading.{restBy, stoppedAt, Within}
-
--- a line that isn't good ends the reading, and with a good one it goes on
-pub need-bad : (k : ℕ) (f : List ℕ → Read Claim) {n : Numbers} → n ≡ malformed → need k n f ≡ bad 22 k
-unfolding need
-need-bad k f e = rw e refl
-
-pub need-good : (k : ℕ) (f : List ℕ → Read Claim) {n : Numbers} {ns : List ℕ} → n ≡ numbers ns → need k n f ≡ f ns
-unfolding need
-need-good k f e = rw e refl
 
 module _ (text : List ℕ) (p : Progress) where
   pub rest-good : (f : ℕ → List Line → Read Claim) → p .good ≡ true → restBy text p f ≡ f (p .line) (linesOf (drop (p .at) text))

@@ -20,7 +20,8 @@ use Rattle.lines.specs.Read.{RowRead}
 use Rattle.lines.specs.Taken.{row-good, row-bad}
 use Rattle.checksheet.specs.declared.progress.Progress.{Progress}
 use Rattle.checksheet.specs.Reading.{restBy, stoppedAt, RowReady, CornersAre, CornersRead, RowAtReady, LinksRead}
-use Rattle.checksheet.proofs.Resting.{need-bad, need-good, rest-stopped, stopped-within, line-here, line-none, next-within}
+use Rattle.sheet.specs.Needs.{need-bad, need-good}
+use Rattle.checksheet.proofs.Resting.{rest-stopped, stopped-within, line-here, line-none, next-within}
 
 -- the numbers at the beginning of the words
 first-words : (v ns : List ℕ) (n : ℕ) {w : List ℕ} → w ≡ splice v 0 ns → length ns ≡ n → n ≤ length v → take n w ≡ ns

@@ -95,16 +95,17 @@ links-up-to ps few = each-ind (storeEdge (edgesOf ps)) (Every (UpTo none) []) 0 
     (every-map (λ (p : Polygon). Unit) noPolygon (UpTo none) [] (λ p. replicate (length (p .corners)) none) ps (none-yet none (omega arith))
     (λ p u. every-same (λ k. k ≤ none) none (length (p .corners)) none (omega arith) (omega arith)) (every-of (λ (p : Polygon). Unit) noPolygon ps (λ i. tt)))
 
-portal-up-to : (w h : ℕ) (a b : Point) → portalOf w h a b ≤ 65539
+-- what R7 gives is one of its four marks, or none
+pub portal-ind : (P : ℕ → Type 0) → P 65536 → P 65537 → P 65538 → P 65539 → P none → (w h : ℕ) (a b : Point) → P (portalOf w h a b)
 unfolding portalOf
-portal-up-to w h a b =
-    cond-ind Up (eqb (a .x) 0 && eqb (b .x) 0) (omega arith)
-    (cond-ind Up (eqb (a .z) h && eqb (b .z) h) (omega arith)
-    (cond-ind Up (eqb (a .x) w && eqb (b .x) w) (omega arith)
-    (cond-ind Up (eqb (a .z) 0 && eqb (b .z) 0) (omega arith) (omega arith))))
-  where
-    Up : ℕ → Type 0
-    Up n = n ≤ 65539
+portal-ind P x z x′ z′ o w h a b =
+    cond-ind P (eqb (a .x) 0 && eqb (b .x) 0) x
+    (cond-ind P (eqb (a .z) h && eqb (b .z) h) z
+    (cond-ind P (eqb (a .x) w && eqb (b .x) w) x′
+    (cond-ind P (eqb (a .z) 0 && eqb (b .z) 0) z′ o)))
+
+portal-up-to : (w h : ℕ) (a b : Point) → portalOf w h a b ≤ 65539
+portal-up-to = portal-ind (λ (n : ℕ). n ≤ 65539) (omega arith) (omega arith) (omega arith) (omega arith) (omega arith)
 
 pub portals-up-to : (vs : List Vertex) (w h border : ℕ) (ps : List Polygon) (ls : List (List ℕ)) → Every (UpTo none) [] ls
     → Every (UpTo 65539) [] (portals vs w h border ps ls)

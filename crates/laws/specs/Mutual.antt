@@ -4,7 +4,7 @@
 use Prim.Native.Nat.{ℕ, _≤_, _<_}
 use native.Mathlib.Omega.{arith}
 use mathlib.Core.Path.{_≡_, refl, sym, _∙_, subst}
-use mathlib.Core.Bool.{Bool, true, false, _&&_, cond}
+use mathlib.Core.Bool.{Bool, true, false, cond}
 use mathlib.Core.Logic.{⊎-elim, _≢_}
 use mathlib.Core.List.{List, []}
 use lib.Dec.{eqb, ltb}
@@ -20,6 +20,7 @@ use Rattle.rules.specs.Links.{none, edgesOf, linksOf}
 use Rattle.rules.specs.Portals.{portalOf, portalAt, portalsIn, portals}
 use Rattle.rules.specs.Handed.{linkAt, NamedBack}
 use Rattle.rules.specs.Checker.{openLink}
+use Rattle.laws.specs.Links.{portal-ind}
 use Rattle.laws.specs.EdgeSides.{Runs, edgeAt}
 use Rattle.laws.specs.EdgeJoins.{Joins, all-joined}
 use Rattle.laws.specs.EdgeLinks.{From, above, below, Storing, all-stored}
@@ -63,15 +64,7 @@ links-mutual ps i j ne = go (s .from i j ne)
 -- ---- with the portals
 
 portal-open : (w h : ℕ) (a b : Point) → none ≤ portalOf w h a b
-unfolding portalOf
-portal-open w h a b =
-    cond-ind Open (eqb (a .x) 0 && eqb (b .x) 0) (omega arith)
-    (cond-ind Open (eqb (a .z) h && eqb (b .z) h) (omega arith)
-    (cond-ind Open (eqb (a .x) w && eqb (b .x) w) (omega arith)
-    (cond-ind Open (eqb (a .z) 0 && eqb (b .z) 0) (omega arith) (omega arith))))
-  where
-    Open : ℕ → Type 0
-    Open n = none ≤ n
+portal-open = portal-ind (λ (n : ℕ). none ≤ n) (omega arith) (omega arith) (omega arith) (omega arith) (omega arith)
 
 module _ (vs : List Vertex) (w h border : ℕ) (ps : List Polygon) where
   pub open-link : (cs : List ℕ) (j : ℕ) → none ≤ openLink vs w h border cs j

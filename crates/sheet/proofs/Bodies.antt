@@ -19,7 +19,9 @@ use Rattle.lines.specs.Read.{lineEnd, numbersAt}
 use Rattle.lines.specs.Taken.{line-some, line-missing, limited}
 use Rattle.lines.specs.Taken as lines
 use Rattle.sheet.specs.declared.body.Progress.{Progress}
-use Rattle.sheet.specs.Reading.{withLists, soFar, restOf, endOf, stoppedBy, contourAt, vertexLineAt, isOver, afterContour, putContour, afterVertex, putVertex, ContourReady, ContourRead, VertexReady, VertexRead, Standing, LineReady, Stepped, BodyReady, BodyRead}
+use Rattle.sheet.specs.Needs.{need-bad, need-good}
+use Rattle.sheet.specs.Reading.{withLists, soFar, restOf, endOf, stoppedBy, contourAt, vertexLineAt, isOver, afterContour, putContour, afterVertex}
+use Rattle.sheet.specs.Reading.{putVertex, ContourReady, ContourRead, VertexReady, VertexRead, Standing, LineReady, Stepped, BodyReady, BodyRead}
 use Rattle.sheet.proofs.BodyLines.{not-over}
 
 -- ---- a sum with one more at the end
@@ -53,15 +55,6 @@ contourOn k ls s ms = elim (tooMany (s .job) (getD ms 2 0)) [
   | true ↦ bad 24 k
   | false ↦ readBody (k + 1) (getD ms 2 0) ls (withContour ms s)
 ]
-
--- a line that isn't good ends the reading, and with a good one it goes on
-need-bad : (k : ℕ) (f : List ℕ → Read Sheet) {n : Numbers} → n ≡ malformed → need k n f ≡ bad 22 k
-unfolding need
-need-bad k f e = rw e refl
-
-need-good : (k : ℕ) (f : List ℕ → Read Sheet) {n : Numbers} {ms : List ℕ} → n ≡ numbers ms → need k n f ≡ f ms
-unfolding need
-need-good k f e = rw e refl
 
 rest-stopped : (text : List ℕ) (p : Progress) (s : Sheet) (n : ℕ) → 0 < n → bad n (p .line) ≡ restOf text (stoppedBy n p) s
 unfolding restOf stoppedBy

@@ -2,7 +2,8 @@
 -- the lines of a stored mesh as they are printed, and the whole
 pub mod Rows
 pub mod Printable
--- how far a sheet has been read
+-- a line that has to have numbers, and how far a sheet has been read
+pub mod Needs
 pub mod Reading
 -- the buffers are long enough, and so is the output
 pub mod Enough
