@@ -15,7 +15,6 @@ use Rattle.mem.specs.Cases.{lt-or-le}
 use lib.ListN.{length, take, drop, getD, set, length-append, drop-of-length-le}
 use lib.Seq.{take-suc, drop-cons, take-all, take-take, take-set-le}
 use lib.IntN.{ℤ, pos, _+ℤ_, +ℤ-idr}
-use Rattle.ints.specs.Bools.{and-left, and-right}
 use Rattle.mem.specs.Loops.{over, run, times}
 use Rattle.rules.specs.declared.Point.{Point}
 use Rattle.rules.specs.declared.Side.{Side}

@@ -11,13 +11,12 @@ use lib.ListN.{length, set, length-set}
 use lib.Seq.{getD-set-same, getD-set-other}
 use Rattle.ints.specs.Bools.{and-left, and-right}
 use Rattle.mem.specs.Cases.{eq-or-ne}
-use Rattle.mem.specs.Loops.{each}
 use Rattle.rules.specs.declared.Edge.{Edge}
 use Rattle.rules.specs.declared.Found.{Found}
 use Rattle.rules.specs.declared.Found.the-variants.{At, Nothing}
 use Rattle.rules.specs.Lists.{when, orElse, down}
 use Rattle.rules.specs.Mesh.{Polygon, polygonAt, sideStart, sideEnd}
-use Rattle.rules.specs.Links.{none, noEdge, eachSide, recordSide, isFree, newest, joinedTo, joinAt, joinSide, edgesOf}
+use Rattle.rules.specs.Links.{noEdge, eachSide, recordSide, isFree, newest, joinedTo, joinAt, joinSide, edgesOf}
 use Rattle.laws.specs.Searches.{found, found-in}
 use Rattle.laws.specs.EdgeSides.{Before, before-more, before-turn, before-self, not-itself, side-at, Runs, edgeAt, Apart, all-recorded}
 

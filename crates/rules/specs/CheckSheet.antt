@@ -1,5 +1,5 @@
 -- Request 7 at the terminal: a printed mesh that is read and checked, and the verdict as a text, a function of the bytes that are read. Definitions only.
-use mathlib.Core.Bool.{Bool, true, false, cond}
+use mathlib.Core.Bool.{true, false, cond}
 use mathlib.Core.List.{List, [], _∷_, _++_}
 use Prim.Native.Nat.{ℕ, zero, suc, _+_, _-_}
 use lib.Dec.{eqb, leb}
@@ -9,7 +9,6 @@ use Rattle.rules.specs.Lines.{ascii, lf, Line, Numbers, malformed, numbe
 use Rattle.rules.specs.Exits.{padded}
 use Rattle.rules.specs.Sheet.{numberMost, codeMost, headingLines, meshName, vName, pName, nName, refusedText, textBy}
 use Rattle.rules.specs.Sheet.{Sheet, Read, taken, bad, andThen, lineAt, need, readHeading}
-use Rattle.rules.specs.Handed.{Handed}
 use Rattle.rules.specs.Checker.{Claim, verdict, verdictNumber, verdictSecond}
 use Rattle.rules.specs.declared.Signed.{Signed}
 use Rattle.rules.specs.declared.Signed.the-variants.{Whole, NotWhole}

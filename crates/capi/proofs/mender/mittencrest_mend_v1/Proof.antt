@@ -3,10 +3,6 @@ use Rattle.capi.proofs.Mended.{reply-as}
 use borrow.Author.Needs.{needs}
 use Rattle.capi.proofs.mender.mittencrest_mend_v1.Statement.{statement}
 use Rattle.capi.proofs.mender.mittencrest_mend_v1.Tie as tie
-use Rattle.capi.proofs.mender.mittencrest_mend_v1.Reads as reads
-use Rattle.capi.proofs.mender.mittencrest_mend_v1.Lts as lts
-use Rattle.capi.proofs.mender.put_mended.Reads as put-mended-reads
-use Rattle.mend.proofs.job.mend.Reads as mend-reads
 
 mend-requires : tie.Need-mend-requires
 mend-requires c κs = search needs

@@ -5,9 +5,6 @@ use Rattle.capi.proofs.Mended.{reply-words}
 use borrow.Author.Needs.{needs}
 use Rattle.capi.proofs.mender.put_mended.Statement.{statement}
 use Rattle.capi.proofs.mender.put_mended.Tie as tie
-use Rattle.capi.proofs.mender.put_mended.Reads as reads
-use Rattle.capi.proofs.mender.put_mended.Lts as lts
-use Rattle.capi.proofs.three.put_three.Reads as put-three-reads
 
 enum-known-reply : tie.Need-enum-known-reply
 enum-known-reply c = search needs

@@ -4,8 +4,6 @@ use Rattle.capi.proofs.Written.{three}
 use borrow.Author.Needs.{needs}
 use Rattle.capi.proofs.three.put_three.Statement.{statement}
 use Rattle.capi.proofs.three.put_three.Tie as tie
-use Rattle.capi.proofs.three.put_three.Reads as reads
-use Rattle.capi.proofs.three.put_three.Lts as lts
 
 slice-write-words : tie.Need-slice-write-words
 slice-write-words c = search needs
