@@ -2,8 +2,8 @@
  * compare/driver builds and runs it; `compare/driver --help` has the formats.
  *
  * Besides answering it holds each call to what the header says of every reply: the result is the answer's first word, the floats and the
- * unit come back as they were given, and each mesh that is built is accepted by the checker. Where that fails it says so and ends with
- * status 3. */
+ * unit come back as they were given, and each mesh that modes build and buffers have built is accepted by the checker. Where that fails it
+ * says so and ends with status 3. */
 #ifndef DRIVER_H
 #define DRIVER_H
 

@@ -2,7 +2,7 @@
 -- Assumes nothing.
 use mathlib.Core.Path.{_≡_, sym, _∙_, ap}
 use mathlib.Core.List.{List, []}
-use Prim.Native.Nat.{ℕ, _+_, _*_, _≤_, _<_}
+use Prim.Native.Nat.{ℕ, _+_, _-_, _*_, _≤_, _<_}
 use native.Mathlib.Omega.{arith}
 use lib.ListN.{length, take, getD}
 use Rattle.mem.specs.Slice.{view, length-view}
@@ -13,7 +13,7 @@ use Rattle.rules.specs.Handed.{Handed, polygonCount, buffersOf, meshIn, corners
 use Rattle.laws.specs.HandedWords.{corners-read}
 use Rattle.stored.specs.Counts.{count-most, corners-there}
 use Rattle.checker.specs.Asked.{handedIn, linksIn}
-use Rattle.checker.specs.Steps.{rowAt, RowsReady, PolygonAt}
+use Rattle.checker.specs.Steps.{rowAt, RowEnds, RowsReady, PolygonAt}
 
 -- a mesh that has passed 40 has its rows; and they are the same with no vertices
 pub rows-ready : {m : Handed} → GoodBuffers m → RowsReady m
@@ -23,9 +23,14 @@ pub links-ready : (nvp : ℕ) (vs ps ls : List ℕ) → RowsReady (handedIn nvp 
 unfolding polygonCount
 links-ready nvp vs ps ls r = record { few = r .few; corners = r .corners; links = r .links }
 
--- what `count_corners` says of a row
-abbrev pub Counted : List ℕ → ℕ → Type 0
-Counted row c = (c ≡ length (upToNone row)) × (take c row ≡ upToNone row)
+-- what `count_corners` says of the row of polygon i, which is lent as k words, says where its corners end
+pub row-ends : (nvp : ℕ) (ps : List ℕ) (i k c : ℕ) → k ≡ nvp → i * nvp + nvp ≤ length ps
+    → (c ≡ length (upToNone (view ps (i * nvp) k))) × (take c (view ps (i * nvp) k) ≡ upToNone (view ps (i * nvp) k)) → RowEnds nvp ps i (i * nvp + c)
+row-ends nvp ps i k c e h q = record {
+  count = ap (λ (n : ℕ). i * nvp + n) (q .0 ∙ ap (λ (x : ℕ). length (upToNone (view ps (i * nvp) x))) e);
+  corners = corners-there ps (i * nvp) nvp k c e h q (i * nvp + c - i * nvp) (omega arith);
+  within = omega (arith, count-most ps (i * nvp) nvp k c e h q);
+}
 
 module _ (m : Handed) (r : RowsReady m) (i : ℕ) (h : i < polygonCount m) where
   pub row-fits : i * m .nvp + m .nvp ≤ length (m .polygons)
@@ -38,31 +43,27 @@ module _ (m : Handed) (r : RowsReady m) (i : ℕ) (h : i < polygonCount m) where
   unfolding meshIn decoded storedLinks storedPolygon
   links-read = getD-tab (storedLinks (m .nvp) (buffersOf m)) (polygonCount m) i [] h
 
-  -- c is the count of the row, which is lent as k words; its corners and its links are lent as j words
-  module _ (k c : ℕ) (e : k ≡ m .nvp) (q : Counted (view (m .polygons) (i * m .nvp) k) c) where
-    pub count-few : c ≤ m .nvp
-    count-few = count-most (m .polygons) (i * m .nvp) (m .nvp) k c e row-fits q
+  -- its corners end at t
+  module _ (t : ℕ) (e : RowEnds (m .nvp) (m .polygons) i t) where
+    links-lent : view (m .links) (i * m .nvp) (t - i * m .nvp) ≡ getD (meshIn m .links) i []
+    links-lent =
+        let l : length (upToNone (rowAt (m .nvp) (m .polygons) i)) ≡ t - i * m .nvp = omega (arith, e .count) in
+        sym (links-read ∙ ap (view (m .links) (i * m .nvp)) l)
 
-    pub count-is : c ≡ length (cornersAt (meshIn m) i)
-    count-is = q .0 ∙ ap (λ (x : ℕ). length (upToNone (view (m .polygons) (i * m .nvp) x))) e ∙ ap length (sym (corners-read m i h))
+    pub count-is : t - i * m .nvp ≡ length (cornersAt (meshIn m) i)
+    count-is =
+        let l : t - i * m .nvp ≡ length (upToNone (rowAt (m .nvp) (m .polygons) i)) = omega (arith, e .count) in
+        l ∙ ap length (sym (corners-read m i h))
 
-    module _ (j : ℕ) (f : j ≡ c) where
-      corners-lent : view (m .polygons) (i * m .nvp) j ≡ cornersAt (meshIn m) i
-      corners-lent = corners-there (m .polygons) (i * m .nvp) (m .nvp) k c e row-fits q j f ∙ sym (corners-read m i h)
-
-      links-lent : view (m .links) (i * m .nvp) j ≡ getD (meshIn m .links) i []
-      links-lent =
-          let l : length (upToNone (rowAt (m .nvp) (m .polygons) i)) ≡ j = rw e at (sym (f ∙ q .0)) in
-          sym (links-read ∙ ap (view (m .links) (i * m .nvp)) l)
-
-      pub polygon-lent : {np : ℕ} → np ≡ polygonCount m → PolygonAt m np i (view (m .polygons) (i * m .nvp) j) (view (m .links) (i * m .nvp) j)
-      polygon-lent n = record {
-        ready = r;
-        count = n;
-        there = rw n h;
-        corners = corners-lent;
-        links = links-lent;
-        alike =
-            length-view (m .links) (i * m .nvp) j (omega (arith, links-fit, count-few))
-            ∙ sym (length-view (m .polygons) (i * m .nvp) j (omega (arith, row-fits, count-few)));
-      }
+    pub polygon-lent : {np : ℕ} → np ≡ polygonCount m
+        → PolygonAt m np i (view (m .polygons) (i * m .nvp) (t - i * m .nvp)) (view (m .links) (i * m .nvp) (t - i * m .nvp))
+    polygon-lent n = record {
+      ready = r;
+      count = n;
+      there = rw n h;
+      corners = e .corners ∙ sym (corners-read m i h);
+      links = links-lent;
+      alike =
+          length-view (m .links) (i * m .nvp) (t - i * m .nvp) (omega (arith, links-fit, e .within, e .count))
+          ∙ sym (length-view (m .polygons) (i * m .nvp) (t - i * m .nvp) (omega (arith, row-fits, e .within, e .count)));
+    }

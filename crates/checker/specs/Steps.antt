@@ -2,7 +2,7 @@
 use mathlib.Core.Path.{_≡_}
 use mathlib.Core.Bool.{Bool, not, _&&_, _||_}
 use mathlib.Core.List.{List, []}
-use Prim.Native.Nat.{ℕ, _+_, _*_, _/_, _≤_, _<_}
+use Prim.Native.Nat.{ℕ, _+_, _-_, _*_, _/_, _≤_, _<_}
 use lib.Dec.{eqb, leb, ltb}
 use lib.ListN.{length, getD}
 use Rattle.mem.specs.Slice.{view}
@@ -36,7 +36,13 @@ rowHolds nv row =
     let n = length (upToNone row) in
     leb 3 n && (allOf (λ k. ltb (getD row k 0) nv) 0 n && unusedFrom row n)
 
--- 42 and 43: each polygon has its nvp words of corners and of links
+-- 42 and 43: the corners of polygon i begin at i·nvp and end at t
+pub record RowEnds (nvp : ℕ) (ps : List ℕ) (i t : ℕ) : Type 0 where
+  pub count : t ≡ i * nvp + length (upToNone (rowAt nvp ps i))
+  pub corners : view ps (i * nvp) (t - i * nvp) ≡ upToNone (rowAt nvp ps i)
+  pub within : t ≤ i * nvp + nvp
+
+-- .. each polygon has its nvp words of corners and of links
 pub record RowsReady (m : Handed) : Type 0 where
   pub few : polygonCount m ≤ 65535
   pub corners : polygonCount m * m .nvp ≤ length (m .polygons)

@@ -5,10 +5,10 @@ ghost use lib.ListN.{length};
 ghost use Rattle.rules.specs.Handed.{polygonCount, meshIn, allOf, firstFault, linkHolds, linksHold};
 ghost use Rattle.checker.specs.Asked.{linksIn};
 ghost use Rattle.checker.specs.Steps.{RowsReady, PolygonAt};
+use crate::ends::corners_end;
 use crate::sides::link_holds;
 use crate::unused::are_unlinked;
 use rules::Found;
-use stored::corners::count_corners;
 
 // Whether the link of each side of polygon i holds; `own` are its corners, and `mine` its links.
 fn sides_hold(
@@ -40,8 +40,7 @@ fn links_hold(nvp: usize, np: usize, polygons: &[u16], links: &[u32], i: usize) 
     ensures { λ r. ⌜ r ≡ linksHold (linksIn nvp (now (polygons .entry)) (now (links .entry))) i ⌝ }
 {
     let from = i * nvp;
-    let n = count_corners(&polygons[from..from + nvp]);
-    let to = from + n;
+    let to = corners_end(nvp, polygons, i);
     if sides_hold(
         nvp,
         np,
@@ -51,6 +50,7 @@ fn links_hold(nvp: usize, np: usize, polygons: &[u16], links: &[u32], i: usize) 
         &polygons[from..to],
         &links[from..to],
     ) {
+        let n = to - from;
         return are_unlinked(&links[from..from + nvp], n);
     }
     false

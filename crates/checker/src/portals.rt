@@ -12,13 +12,13 @@ ghost use Rattle.rules.specs.Handed.{polygonCount, allOf, firstFault, Consisten
 ghost use Rattle.rules.specs.Checker.{portalsHold};
 ghost use Rattle.checker.specs.Asked.{handedIn, unclaimedIn};
 ghost use Rattle.checker.specs.Steps.{verticesIn, sideBears, SidesReady};
+use crate::ends::corners_end;
 use links::portals::portal_of;
 use plane::ring::next;
 use records::polygon::NONE;
 use rules::Found;
 use rules::Point;
 use rules::VERTEX_STRIDE;
-use stored::corners::count_corners;
 
 // The place of vertex c.
 fn place_at(vertices: &[u16], c: u16) -> Point
@@ -99,8 +99,7 @@ fn portals_hold(
     ensures { λ r. ⌜ r ≡ portalsHold (unclaimedIn nvp w h border (now (vertices .entry)) (now (polygons .entry)) (now (links .entry))) i ⌝ }
 {
     let from = i * nvp;
-    let n = count_corners(&polygons[from..from + nvp]);
-    let to = from + n;
+    let to = corners_end(nvp, polygons, i);
     sides_bear(
         vertices,
         w,

@@ -6,9 +6,9 @@ ghost use lib.ListN.{length, getD};
 ghost use Rattle.rules.specs.Handed.{polygonCount, meshIn, cornersAt, anyOf, namesBack, linkHolds};
 ghost use Rattle.checker.specs.Asked.{linksIn};
 ghost use Rattle.checker.specs.Steps.{RowsReady, PolygonAt};
+use crate::ends::corners_end;
 use plane::ring::next;
 use records::polygon::NONE;
-use stored::corners::count_corners;
 
 // The most that the link of an open side may be: R7's last portal.
 const LAST_PORTAL: u32 = 65539;
@@ -57,8 +57,7 @@ fn polygon_names_back(
         anyOf (namesBack (cornersAt s l) (getD (s .links) l []) a b i) 0 (length (cornersAt s l))) ⌝ }
 {
     let from = l * nvp;
-    let n = count_corners(&polygons[from..from + nvp]);
-    let to = from + n;
+    let to = corners_end(nvp, polygons, l);
     is_named_back(&polygons[from..to], &links[from..to], a, b, i)
 }
 

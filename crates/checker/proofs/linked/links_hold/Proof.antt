@@ -9,13 +9,11 @@ use Rattle.mem.specs.Slice.{view}
 use Rattle.rules.specs.Handed.{Handed, polygonCount, meshIn, cornersAt, allOf, linkHolds}
 use Rattle.checker.specs.Asked.{linksIn}
 use Rattle.checker.specs.Steps.{PolygonAt}
-use Rattle.checker.proofs.Lent.{row-fits, links-fit, count-few, count-is, polygon-lent}
+use Rattle.checker.proofs.Lent.{row-fits, links-fit, count-is, polygon-lent}
 use Rattle.checker.proofs.LinkCases.{side-fails, past-decides}
 use borrow.Author.Needs.{needs}
 use Rattle.checker.proofs.linked.links_hold.Statement.{statement}
 use Rattle.checker.proofs.linked.links_hold.Tie as tie
-
--- Assumes nothing.
 
 abbrev mesh : tie.Start → Handed
 mesh s = linksIn (s .args .nvp) (s .args .polygons .now) (s .args .links .now)
@@ -38,29 +36,19 @@ words s = row-fits (mesh s) (s .pre .0) (s .args .i) (inside s)
 linked : (s : tie.Start) → place s + s .args .nvp ≤ length (s .args .links .now)
 linked s = links-fit (mesh s) (s .pre .0) (s .args .i) (inside s)
 
--- its corners, counted and lent with their links
-abbrev start : tie.After-count-corners → tie.Start
-start c = c .before .before .before .before
+-- its corners end there
+abbrev start : tie.After-corners-end → tie.Start
+start c = c .before .before .before
 
-few : (c : tie.After-count-corners) → c .count-corners .result ≤ start c .args .nvp
-few c =
-    let s = start c in
-    count-few (mesh s) (s .pre .0) (s .args .i) (inside s) (wide s) (c .count-corners .result) (omega arith) (c .count-corners .ensures)
+abbrev many : tie.After-corners-end → ℕ
+many c = c .corners-end .result - place (start c)
 
-counted : (c : tie.After-count-corners) → c .count-corners .result ≡ length (cornersAt (meshIn (mesh (start c))) (start c .args .i))
-counted c =
-    let s = start c in
-    count-is (mesh s) (s .pre .0) (s .args .i) (inside s) (wide s) (c .count-corners .result) (omega arith) (c .count-corners .ensures)
+counted : (c : tie.After-corners-end) → many c ≡ length (cornersAt (meshIn (mesh (start c))) (start c .args .i))
+counted c = let s = start c in count-is (mesh s) (s .pre .0) (s .args .i) (inside s) (c .corners-end .result) (c .corners-end .ensures)
 
-abbrev many : tie.After-count-corners → ℕ
-many c = place (start c) + c .count-corners .result - place (start c)
-
-lent : (c : tie.After-count-corners) → let s = start c in
+lent : (c : tie.After-corners-end) → let s = start c in
     PolygonAt (mesh s) (s .args .np) (s .args .i) (view (s .args .polygons .now) (place s) (many c)) (view (s .args .links .now) (place s) (many c))
-lent c =
-    let s = start c in
-    polygon-lent (mesh s) (s .pre .0) (s .args .i) (inside s) (wide s) (c .count-corners .result) (omega arith) (c .count-corners .ensures) (many c)
-    (omega arith) (s .pre .1)
+lent c = let s = start c in polygon-lent (mesh s) (s .pre .0) (s .args .i) (inside s) (c .corners-end .result) (c .corners-end .ensures) (s .pre .1)
 
 -- what is said of its sides
 said : (c : tie.After-sides-hold) → let s = start (c .before .before .before) in
@@ -72,26 +60,8 @@ said c =
 mul-from : tie.Need-mul-from
 mul-from c = record { fits = omega (arith, words (c .before .before)) }
 
-add-count-corners : tie.Need-add-count-corners
-add-count-corners c = record { fits = omega (arith, words (c .before .before)) }
-
-mul-count-corners : tie.Need-mul-count-corners
-mul-count-corners c = record { fits = omega (arith, words (c .before .before)) }
-
-sub-count-corners : tie.Need-sub-count-corners
-sub-count-corners c = search needs
-
-part-count-corners-start : tie.Need-part-count-corners-start
-part-count-corners-start c = search needs
-
-part-count-corners-end : tie.Need-part-count-corners-end
-part-count-corners-end c = omega (arith, words (c .before .before))
-
-count-corners-requires : tie.Need-count-corners-requires
-count-corners-requires c κs = search needs
-
-add-to : tie.Need-add-to
-add-to c = record { fits = omega (arith, words (start c), few c) }
+corners-end-requires : tie.Need-corners-end-requires
+corners-end-requires c κs = words (c .before .before)
 
 mul-sides-hold : tie.Need-mul-sides-hold
 mul-sides-hold c = record { fits = omega (arith, words (start c)) }
@@ -103,7 +73,7 @@ part-sides-hold-start : tie.Need-part-sides-hold-start
 part-sides-hold-start c = search needs
 
 part-sides-hold-end : tie.Need-part-sides-hold-end
-part-sides-hold-end c = omega (arith, words (start c), few c)
+part-sides-hold-end c = omega (arith, words (start c), c .corners-end .ensures .within)
 
 mul-sides-hold-2 : tie.Need-mul-sides-hold-2
 mul-sides-hold-2 c = record { fits = omega (arith, linked (start (c .before))) }
@@ -115,10 +85,13 @@ part-sides-hold-start-2 : tie.Need-part-sides-hold-start-2
 part-sides-hold-start-2 c = search needs
 
 part-sides-hold-end-2 : tie.Need-part-sides-hold-end-2
-part-sides-hold-end-2 c = omega (arith, linked (start (c .before)), few (c .before))
+part-sides-hold-end-2 c = omega (arith, linked (start (c .before)), c .before .corners-end .ensures .within)
 
 sides-hold-requires : tie.Need-sides-hold-requires
 sides-hold-requires c κs = lent (c .before .before)
+
+sub-n : tie.Need-sub-n
+sub-n c = omega (arith, c .before .before .before .before .corners-end .ensures .count)
 
 add-are-unlinked : tie.Need-add-are-unlinked
 add-are-unlinked c = record { fits = omega (arith, linked (start (c .before .before .before .before))) }
@@ -144,7 +117,7 @@ returns c =
     let n = t .before .before .before .before in
     let s = start n in
     c .are-unlinked .ensures
-    ∙ past-decides (mesh s) (s .args .i) (said (t .before)) (t .if1 .taken) (wide s) (n .count-corners .result) (omega arith) (counted n) (linked s)
+    ∙ past-decides (mesh s) (s .args .i) (said (t .before)) (t .if1 .taken) (wide s) (many n) (omega arith) (counted n) (linked s)
 
 returns-2 : tie.Need-returns-2
 returns-2 c = let h = c .before in let s = start (h .before .before .before) in side-fails (mesh s) (s .args .i) (said h) (c .if1 .left)
@@ -154,13 +127,7 @@ links-hold-spec =
     tie.close
     (tie.spec
     mul-from
-    add-count-corners
-    mul-count-corners
-    sub-count-corners
-    part-count-corners-start
-    part-count-corners-end
-    count-corners-requires
-    add-to
+    corners-end-requires
     mul-sides-hold
     sub-sides-hold
     part-sides-hold-start
@@ -170,6 +137,7 @@ links-hold-spec =
     part-sides-hold-start-2
     part-sides-hold-end-2
     sides-hold-requires
+    sub-n
     add-are-unlinked
     mul-are-unlinked
     sub-are-unlinked

@@ -7,7 +7,7 @@ use Rattle.mem.specs.Slice.{view}
 use Rattle.rules.specs.Handed.{Handed, polygonCount}
 use Rattle.checker.specs.Asked.{linksIn}
 use Rattle.checker.specs.Steps.{PolygonAt}
-use Rattle.checker.proofs.Lent.{row-fits, links-fit, count-few, polygon-lent}
+use Rattle.checker.proofs.Lent.{row-fits, links-fit, polygon-lent}
 use borrow.Author.Needs.{needs}
 use Rattle.checker.proofs.sides.polygon_names_back.Statement.{statement}
 use Rattle.checker.proofs.sides.polygon_names_back.Tie as tie
@@ -19,10 +19,6 @@ mesh s = linksIn (s .args .nvp) (s .args .polygons .now) (s .args .links .now)
 abbrev place : tie.Start → ℕ
 place s = s .args .l * s .args .nvp
 
--- the count of its words, as they are lent
-abbrev wide : tie.Start → ℕ
-wide s = place s + s .args .nvp - place s
-
 -- the words of polygon l lie in the buffers
 words : (s : tie.Start) → place s + s .args .nvp ≤ length (s .args .polygons .now)
 words s = row-fits (mesh s) (s .pre .0) (s .args .l) (s .pre .1)
@@ -30,48 +26,22 @@ words s = row-fits (mesh s) (s .pre .0) (s .args .l) (s .pre .1)
 linked : (s : tie.Start) → place s + s .args .nvp ≤ length (s .args .links .now)
 linked s = links-fit (mesh s) (s .pre .0) (s .args .l) (s .pre .1)
 
--- its corners, counted and lent with their links
-abbrev start : tie.After-count-corners → tie.Start
-start c = c .before .before .before .before
+-- its corners end there
+abbrev start : tie.After-corners-end → tie.Start
+start c = c .before .before .before
 
-few : (c : tie.After-count-corners) → c .count-corners .result ≤ start c .args .nvp
-few c =
-    let s = start c in
-    count-few (mesh s) (s .pre .0) (s .args .l) (s .pre .1) (wide s) (c .count-corners .result) (omega arith) (c .count-corners .ensures)
+abbrev many : tie.After-corners-end → ℕ
+many c = c .corners-end .result - place (start c)
 
-abbrev many : tie.After-count-corners → ℕ
-many c = place (start c) + c .count-corners .result - place (start c)
-
-lent : (c : tie.After-count-corners) → let s = start c in
+lent : (c : tie.After-corners-end) → let s = start c in
     PolygonAt (mesh s) (polygonCount (mesh s)) (s .args .l) (view (s .args .polygons .now) (place s) (many c)) (view (s .args .links .now) (place s) (many c))
-lent c =
-    let s = start c in
-    polygon-lent (mesh s) (s .pre .0) (s .args .l) (s .pre .1) (wide s) (c .count-corners .result) (omega arith) (c .count-corners .ensures) (many c)
-    (omega arith) refl
+lent c = let s = start c in polygon-lent (mesh s) (s .pre .0) (s .args .l) (s .pre .1) (c .corners-end .result) (c .corners-end .ensures) refl
 
 mul-from : tie.Need-mul-from
 mul-from c = record { fits = omega (arith, words (c .before .before)) }
 
-add-count-corners : tie.Need-add-count-corners
-add-count-corners c = record { fits = omega (arith, words (c .before .before)) }
-
-mul-count-corners : tie.Need-mul-count-corners
-mul-count-corners c = record { fits = omega (arith, words (c .before .before)) }
-
-sub-count-corners : tie.Need-sub-count-corners
-sub-count-corners c = search needs
-
-part-count-corners-start : tie.Need-part-count-corners-start
-part-count-corners-start c = search needs
-
-part-count-corners-end : tie.Need-part-count-corners-end
-part-count-corners-end c = omega (arith, words (c .before .before))
-
-count-corners-requires : tie.Need-count-corners-requires
-count-corners-requires c κs = search needs
-
-add-to : tie.Need-add-to
-add-to c = record { fits = omega (arith, words (start c), few c) }
+corners-end-requires : tie.Need-corners-end-requires
+corners-end-requires c κs = words (c .before .before)
 
 mul-is-named-back : tie.Need-mul-is-named-back
 mul-is-named-back c = record { fits = omega (arith, words (start c)) }
@@ -83,7 +53,7 @@ part-is-named-back-start : tie.Need-part-is-named-back-start
 part-is-named-back-start c = search needs
 
 part-is-named-back-end : tie.Need-part-is-named-back-end
-part-is-named-back-end c = omega (arith, words (start c), few c)
+part-is-named-back-end c = omega (arith, words (start c), c .corners-end .ensures .within)
 
 mul-is-named-back-2 : tie.Need-mul-is-named-back-2
 mul-is-named-back-2 c = record { fits = omega (arith, linked (start (c .before))) }
@@ -95,7 +65,7 @@ part-is-named-back-start-2 : tie.Need-part-is-named-back-start-2
 part-is-named-back-start-2 c = search needs
 
 part-is-named-back-end-2 : tie.Need-part-is-named-back-end-2
-part-is-named-back-end-2 c = omega (arith, linked (start (c .before)), few (c .before))
+part-is-named-back-end-2 c = omega (arith, linked (start (c .before)), c .before .corners-end .ensures .within)
 
 is-named-back-requires : tie.Need-is-named-back-requires
 is-named-back-requires c κs = lent (c .before .before) .alike
@@ -108,13 +78,7 @@ polygon-names-back-spec =
     tie.close
     (tie.spec
     mul-from
-    add-count-corners
-    mul-count-corners
-    sub-count-corners
-    part-count-corners-start
-    part-count-corners-end
-    count-corners-requires
-    add-to
+    corners-end-requires
     mul-is-named-back
     sub-is-named-back
     part-is-named-back-start
