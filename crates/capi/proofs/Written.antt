@@ -7,64 +7,64 @@ use native.Mathlib.Omega.{arith}
 use lib.Dec.{lit<}
 use lib.Ieee.{Float}
 use lib.ListN.{length, set}
-use Rattle.mem.specs.Slice.{splice-whole, setEach, stored-each}
-use Rattle.rules.specs.Replies.{refusalNumber, refusalSecond, numberOfReply, second_of, thirdOf}
-use Rattle.rules.specs.Units.{sizeIn}
+use Rattle.mem.specs.Slice.{splice_whole, set_each, stored_each}
+use Rattle.rules.specs.Replies.{refusal_number, refusal_second, number_of_reply, second_of, third_of}
+use Rattle.rules.specs.Units.{size_in}
 use Rattle.rules.specs.declared.Refusal.{Refusal}
 use Rattle.rules.specs.declared.Refusal.TheVariants.{BadCornerLimit, CountsDisagree, HighCoordinate, BadFlag, TooManyVertices, ShortBuffer, NoEarInContour, NoEarInHole}
 use Rattle.rules.specs.declared.Reply.{Reply}
 use Rattle.rules.specs.declared.Reply.TheVariants.{Built, Refused}
-use Rattle.capi.specs.Numbers.{headerLength, answerLength, threeLength, number_at, headerFrom, sizeNumber, headerWords, answerWords}
+use Rattle.capi.specs.Numbers.{header_length, answer_length, three_length, number_at, header_from, size_number, header_words, answer_words}
 
 module _ {A : Type 0} where
   -- all places from the first on
-  pub written : (w : List A) (x : A) (xs : List A) → length w ≡ suc (length xs) → setEach (set w 0 x) 0 1 xs ≡ x ∷ xs
-  written w x xs e = stored-each w 0 x xs ∙ splice-whole w (x ∷ xs) (sym e)
+  pub written : (w : List A) (x : A) (xs : List A) → length w ≡ suc (length xs) → set_each (set w 0 x) 0 1 xs ≡ x ∷ xs
+  written w x xs e = stored_each w 0 x xs ∙ splice_whole w (x ∷ xs) (sym e)
 
 -- nine numbers
-pub nine : {A : Type 0} (w : List A) (a b c d e f g h i : A) → length w ≡ headerLength
+pub nine : {A : Type 0} (w : List A) (a b c d e f g h i : A) → length w ≡ header_length
     → set (set (set (set (set (set (set (set (set w 0 a) 1 b) 2 c) 3 d) 4 e) 5 f) 6 g) 7 h) 8 i ≡ a ∷ b ∷ c ∷ d ∷ e ∷ f ∷ g ∷ h ∷ i ∷ []
-unfolding setEach
+unfolding set_each
 nine w a b c d e f g h i l = written w a (b ∷ c ∷ d ∷ e ∷ f ∷ g ∷ h ∷ i ∷ []) l
 
 -- four
-pub four : {A : Type 0} (w : List A) (a b c d : A) → length w ≡ answerLength → set (set (set (set w 0 a) 1 b) 2 c) 3 d ≡ a ∷ b ∷ c ∷ d ∷ []
-unfolding setEach
+pub four : {A : Type 0} (w : List A) (a b c d : A) → length w ≡ answer_length → set (set (set (set w 0 a) 1 b) 2 c) 3 d ≡ a ∷ b ∷ c ∷ d ∷ []
+unfolding set_each
 four w a b c d l = written w a (b ∷ c ∷ d ∷ []) l
 
 -- three
-pub three : {A : Type 0} (w : List A) (a b c : A) → length w ≡ threeLength → set (set (set w 0 a) 1 b) 2 c ≡ a ∷ b ∷ c ∷ []
-unfolding setEach
+pub three : {A : Type 0} (w : List A) (a b c : A) → length w ≡ three_length → set (set (set w 0 a) 1 b) 2 c ≡ a ∷ b ∷ c ∷ []
+unfolding set_each
 three w a b c l = written w a (b ∷ c ∷ []) l
 
 -- a header's numbers, read and written again
-pub size_back : (inches : Bool) (x : Float) → sizeNumber (sizeIn inches x) ≡ x
-unfolding sizeNumber sizeIn
+pub size_back : (inches : Bool) (x : Float) → size_number (size_in inches x) ≡ x
+unfolding size_number size_in
 size_back true x = refl
 size_back false x = refl
 
-list-nine : (l : List Float) → length l ≡ 9
+list_nine : (l : List Float) → length l ≡ 9
     → number_at l 0 ∷ number_at l 1 ∷ number_at l 2 ∷ number_at l 3 ∷ number_at l 4 ∷ number_at l 5 ∷ number_at l 6 ∷ number_at l 7 ∷ number_at l 8 ∷ [] ≡ l
 unfolding number_at
-list-nine (a ∷ b ∷ c ∷ d ∷ e ∷ f ∷ g ∷ h ∷ i ∷ []) l = refl
-list-nine [] l = absurd (omega arith)
-list-nine (a ∷ []) l = absurd (omega arith)
-list-nine (a ∷ b ∷ []) l = absurd (omega arith)
-list-nine (a ∷ b ∷ c ∷ []) l = absurd (omega arith)
-list-nine (a ∷ b ∷ c ∷ d ∷ []) l = absurd (omega arith)
-list-nine (a ∷ b ∷ c ∷ d ∷ e ∷ []) l = absurd (omega arith)
-list-nine (a ∷ b ∷ c ∷ d ∷ e ∷ f ∷ []) l = absurd (omega arith)
-list-nine (a ∷ b ∷ c ∷ d ∷ e ∷ f ∷ g ∷ []) l = absurd (omega arith)
-list-nine (a ∷ b ∷ c ∷ d ∷ e ∷ f ∷ g ∷ h ∷ []) l = absurd (omega arith)
-list-nine (a ∷ b ∷ c ∷ d ∷ e ∷ f ∷ g ∷ h ∷ i ∷ j ∷ k) l = absurd (omega arith)
+list_nine (a ∷ b ∷ c ∷ d ∷ e ∷ f ∷ g ∷ h ∷ i ∷ []) l = refl
+list_nine [] l = absurd (omega arith)
+list_nine (a ∷ []) l = absurd (omega arith)
+list_nine (a ∷ b ∷ []) l = absurd (omega arith)
+list_nine (a ∷ b ∷ c ∷ []) l = absurd (omega arith)
+list_nine (a ∷ b ∷ c ∷ d ∷ []) l = absurd (omega arith)
+list_nine (a ∷ b ∷ c ∷ d ∷ e ∷ []) l = absurd (omega arith)
+list_nine (a ∷ b ∷ c ∷ d ∷ e ∷ f ∷ []) l = absurd (omega arith)
+list_nine (a ∷ b ∷ c ∷ d ∷ e ∷ f ∷ g ∷ []) l = absurd (omega arith)
+list_nine (a ∷ b ∷ c ∷ d ∷ e ∷ f ∷ g ∷ h ∷ []) l = absurd (omega arith)
+list_nine (a ∷ b ∷ c ∷ d ∷ e ∷ f ∷ g ∷ h ∷ i ∷ j ∷ k) l = absurd (omega arith)
 
-pub header-back : (inches : Bool) (l : List Float) → length l ≡ headerLength → headerWords (headerFrom inches l) ≡ l
-unfolding headerWords headerFrom
-header-back inches l e = rw (size_back inches (number_at l 6)) (list-nine l e)
+pub header_back : (inches : Bool) (l : List Float) → length l ≡ header_length → header_words (header_from inches l) ≡ l
+unfolding header_words header_from
+header_back inches l e = rw (size_back inches (number_at l 6)) (list_nine l e)
 
 -- a refusal's number is small
-pub number_small : (r : Refusal) → refusalNumber r < 2 ^ 32
-unfolding refusalNumber
+pub number_small : (r : Refusal) → refusal_number r < 2 ^ 32
+unfolding refusal_number
 number_small (BadCornerLimit n) = lit< tt
 number_small CountsDisagree = lit< tt
 number_small (HighCoordinate k) = lit< tt
@@ -75,19 +75,19 @@ number_small (NoEarInContour c) = lit< tt
 number_small (NoEarInHole i) = lit< tt
 
 -- the answer's four numbers
-pub built-words : (reply : Reply) (inches : Bool) (n k u : ℕ) → reply ≡ Built n k → u ≡ cond inches 1 0 → 0 ∷ n ∷ k ∷ u ∷ [] ≡ answerWords reply inches
-unfolding answerWords numberOfReply second_of thirdOf
-built-words reply inches n k u e f = rw (e, f) refl
+pub built_words : (reply : Reply) (inches : Bool) (n k u : ℕ) → reply ≡ Built n k → u ≡ cond inches 1 0 → 0 ∷ n ∷ k ∷ u ∷ [] ≡ answer_words reply inches
+unfolding answer_words number_of_reply second_of third_of
+built_words reply inches n k u e f = rw (e, f) refl
 
-pub refused-words : (reply : Reply) (inches : Bool) (r : Refusal) (a b u : ℕ) → reply ≡ Refused r → a ≡ refusalNumber r → b ≡ refusalSecond r → u ≡ cond inches 1 0
-    → a ∷ b ∷ 0 ∷ u ∷ [] ≡ answerWords reply inches
-unfolding answerWords numberOfReply second_of thirdOf
-refused-words reply inches r a b u e p q f = rw (e, p, q, f) refl
+pub refused_words : (reply : Reply) (inches : Bool) (r : Refusal) (a b u : ℕ) → reply ≡ Refused r → a ≡ refusal_number r → b ≡ refusal_second r → u ≡ cond inches 1 0
+    → a ∷ b ∷ 0 ∷ u ∷ [] ≡ answer_words reply inches
+unfolding answer_words number_of_reply second_of third_of
+refused_words reply inches r a b u e p q f = rw (e, p, q, f) refl
 
-pub built-number : (reply : Reply) (n k : ℕ) → reply ≡ Built n k → 0 ≡ numberOfReply reply
-unfolding numberOfReply
-built-number reply n k e = rw e refl
+pub built_number : (reply : Reply) (n k : ℕ) → reply ≡ Built n k → 0 ≡ number_of_reply reply
+unfolding number_of_reply
+built_number reply n k e = rw e refl
 
-pub refused-number : (reply : Reply) (r : Refusal) (a : ℕ) → reply ≡ Refused r → a ≡ refusalNumber r → a ≡ numberOfReply reply
-unfolding numberOfReply
-refused-number reply r a e p = rw (e, p) refl
+pub refused_number : (reply : Reply) (r : Refusal) (a : ℕ) → reply ≡ Refused r → a ≡ refusal_number r → a ≡ number_of_reply reply
+unfolding number_of_reply
+refused_number reply r a e p = rw (e, p) refl

@@ -1,11 +1,11 @@
 // The build.
 ghost use Rattle.std.specs.Prelude.{◌≡◌};
-ghost use Rattle.rules.specs.Replies.{numberOfReply};
-ghost use Rattle.rules.specs.Build.{outcome, replyOf};
+ghost use Rattle.rules.specs.Replies.{number_of_reply};
+ghost use Rattle.rules.specs.Build.{outcome, reply_of};
 ghost use Rattle.rules.specs.Exits.{exits};
 ghost use Rattle.checks.specs.Answers.{job_of};
 ghost use Rattle.outputs.specs.Ready.{buffers};
-ghost use Rattle.capi.specs.Numbers.{answerWords};
+ghost use Rattle.capi.specs.Numbers.{answer_words};
 
 use crate::header::{header_from, put_answer, put_header};
 use polymesh::mesh::into_polygon_mesh;
@@ -33,8 +33,8 @@ pub extern "C" fn mittencrest_build_v1(
     work: &mut [u32],
     answer: &mut [u64; 4],
 ) -> u32
-    ensures result { result ≡ numberOfReply (replyOf (outcome (job_of nvp w h border lengths.now regions.now codes.now numbers.now) (buffers vertices.old polygons.old neighbours.old polyregions.old polycodes.old flags.old work.old))) }
-    ensures answer { answer.new ≡ answerWords (replyOf (outcome (job_of nvp w h border lengths.now regions.now codes.now numbers.now) (buffers vertices.old polygons.old neighbours.old polyregions.old polycodes.old flags.old work.old))) inches }
+    ensures result { result ≡ number_of_reply (reply_of (outcome (job_of nvp w h border lengths.now regions.now codes.now numbers.now) (buffers vertices.old polygons.old neighbours.old polyregions.old polycodes.old flags.old work.old))) }
+    ensures answer { answer.new ≡ answer_words (reply_of (outcome (job_of nvp w h border lengths.now regions.now codes.now numbers.now) (buffers vertices.old polygons.old neighbours.old polyregions.old polycodes.old flags.old work.old))) inches }
     ensures header { header.new ≡ header.old }
     ensures words { buffers vertices.new polygons.new neighbours.new polyregions.new polycodes.new flags.new work.new ≡ exits (job_of nvp w h border lengths.now regions.now codes.now numbers.now) (buffers vertices.old polygons.old neighbours.old polyregions.old polycodes.old flags.old work.old) }
 {

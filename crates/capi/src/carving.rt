@@ -1,8 +1,8 @@
 // Binary STL, written and read.
 ghost use Rattle.std.specs.Prelude.{◌≡◌, length};
-ghost use Rattle.rules.specs.StlCall.{stlReply, stlExit, stlNumber, stlWords, unstlReply, unstlExit, unstlNumber, unstlWords};
-ghost use Rattle.checker.specs.Asked.{handedIn};
-ghost use Rattle.stl.specs.Steps.{scaleIn};
+ghost use Rattle.rules.specs.StlCall.{stl_reply, stl_exit, stl_number, stl_words, unstl_reply, unstl_exit, unstl_number, unstl_words};
+ghost use Rattle.checker.specs.Asked.{handed_in};
+ghost use Rattle.stl.specs.Steps.{scale_in};
 
 use crate::three::put_three;
 use stl::numbers::{stl_number, stl_second, unstl_number, unstl_second};
@@ -22,12 +22,12 @@ pub extern "C" fn mittencrest_stl_v1(
     file: &mut [u8],
     answer: &mut [u64; 3],
 ) -> u32
-    ensures result { result ≡ stlNumber (stlReply (handedIn nvp vertices.now polygons.now links.now)
-        (scaleIn inches size height) (length file.old)) }
-    ensures answer { answer.new ≡ stlWords (stlReply (handedIn nvp vertices.now polygons.now links.now)
-        (scaleIn inches size height) (length file.old)) }
-    ensures file { file.new ≡ stlExit (handedIn nvp vertices.now polygons.now links.now)
-        (scaleIn inches size height) file.old }
+    ensures result { result ≡ stl_number (stl_reply (handed_in nvp vertices.now polygons.now links.now)
+        (scale_in inches size height) (length file.old)) }
+    ensures answer { answer.new ≡ stl_words (stl_reply (handed_in nvp vertices.now polygons.now links.now)
+        (scale_in inches size height) (length file.old)) }
+    ensures file { file.new ≡ stl_exit (handed_in nvp vertices.now polygons.now links.now)
+        (scale_in inches size height) file.old }
 {
     let reply = write_stl(nvp, inches, size, height, vertices, polygons, links, file);
     put_three(answer, stl_number(reply) as u32, stl_second(reply), 0)
@@ -40,9 +40,9 @@ pub extern "C" fn mittencrest_unstl_v1(
     points: &mut [u32],
     answer: &mut [u64; 3],
 ) -> u32
-    ensures result { result ≡ unstlNumber (unstlReply file.now (length points.old)) }
-    ensures answer { answer.new ≡ unstlWords (unstlReply file.now (length points.old)) }
-    ensures points { points.new ≡ unstlExit file.now points.old }
+    ensures result { result ≡ unstl_number (unstl_reply file.now (length points.old)) }
+    ensures answer { answer.new ≡ unstl_words (unstl_reply file.now (length points.old)) }
+    ensures points { points.new ≡ unstl_exit file.now points.old }
 {
     let reply = read_stl(file, points);
     put_three(answer, unstl_number(reply) as u32, unstl_second(reply), 0)

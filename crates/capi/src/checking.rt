@@ -1,7 +1,7 @@
 // The checker.
 ghost use Rattle.std.specs.Prelude.{◌≡◌};
-ghost use Rattle.rules.specs.Checker.{verdict, verdictNumber, verdictWords};
-ghost use Rattle.checker.specs.Asked.{claimIn};
+ghost use Rattle.rules.specs.Checker.{verdict, verdict_number, verdict_words};
+ghost use Rattle.checker.specs.Asked.{claim_in};
 
 use crate::three::put_three;
 use checker::check::check_mesh;
@@ -21,9 +21,9 @@ pub extern "C" fn mittencrest_check_v1(
     links: &[u32],
     answer: &mut [u64; 3],
 ) -> u32
-    ensures result { result ≡ verdictNumber (verdict (claimIn nvp w h border claim vertices.now polygons.now links.now)) }
+    ensures result { result ≡ verdict_number (verdict (claim_in nvp w h border claim vertices.now polygons.now links.now)) }
     ensures answer { answer.new
-        ≡ verdictWords (verdict (claimIn nvp w h border claim vertices.now polygons.now links.now)) }
+        ≡ verdict_words (verdict (claim_in nvp w h border claim vertices.now polygons.now links.now)) }
 {
     let verdict = check_mesh(nvp, w, h, border, claim, vertices, polygons, links);
     put_three(

@@ -1,7 +1,7 @@
 // The header and the answer as numbers.
 ghost use Rattle.std.specs.Prelude.{cond, ◌≡◌, length};
-ghost use Rattle.rules.specs.Replies.{numberOfReply};
-ghost use Rattle.capi.specs.Numbers.{headerLength, answerLength, headerFrom, sizeNumber, headerWords, answerWords};
+ghost use Rattle.rules.specs.Replies.{number_of_reply};
+ghost use Rattle.capi.specs.Numbers.{header_length, answer_length, header_from, size_number, header_words, answer_words};
 
 use plane::unit::cell_size;
 use polymesh::replies::{refusal_number, refusal_second};
@@ -9,8 +9,8 @@ use rules::{Aabb3d, CellSize, Header, Reply, Vec3};
 
 // The header that these numbers are, in this unit.
 pub fn header_from(inches: bool, numbers: &[f32]) -> Header
-    requires { length numbers.now ≡ headerLength }
-    ensures { result ≡ headerFrom inches numbers.now }
+    requires { length numbers.now ≡ header_length }
+    ensures { result ≡ header_from inches numbers.now }
 {
     let min = Vec3 {
         x: numbers[0],
@@ -32,7 +32,7 @@ pub fn header_from(inches: bool, numbers: &[f32]) -> Header
 
 // The number of a cell size, without its unit.
 fn size_of(size: CellSize) -> f32
-    ensures { result ≡ sizeNumber size }
+    ensures { result ≡ size_number size }
 {
     match size {
         CellSize::Millimetres(x) => x,
@@ -42,8 +42,8 @@ fn size_of(size: CellSize) -> f32
 
 // The numbers of a header.
 pub fn put_header(header: Header, numbers: &mut [f32])
-    requires { length numbers.old ≡ headerLength }
-    ensures { numbers.new ≡ headerWords header }
+    requires { length numbers.old ≡ header_length }
+    ensures { numbers.new ≡ header_words header }
 {
     let size = header.cell_size;
     let aabb = header.aabb;
@@ -70,8 +70,8 @@ fn unit_number(inches: bool) -> u64
 
 // The numbers of a reply, and the unit; the result is the reply's number.
 pub fn put_answer(reply: Reply, inches: bool, words: &mut [u64]) -> u32
-    requires { length words.old ≡ answerLength }
-    ensures { (result ≡ numberOfReply reply) × (words.new ≡ answerWords reply inches) }
+    requires { length words.old ≡ answer_length }
+    ensures { (result ≡ number_of_reply reply) × (words.new ≡ answer_words reply inches) }
 {
     let unit = unit_number(inches);
     match reply {

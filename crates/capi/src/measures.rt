@@ -1,9 +1,9 @@
 // The distance, and units.
 ghost use Rattle.std.specs.Prelude.{◌≡◌};
-ghost use Rattle.rules.specs.Distance.{distanceSquared};
-ghost use Rattle.rules.specs.Units.{sizeIn};
+ghost use Rattle.rules.specs.Distance.{distance_squared};
+ghost use Rattle.rules.specs.Units.{size_in};
 ghost use Rattle.rules.specs.Units as Units;
-ghost use Rattle.capi.specs.Numbers.{pointAt};
+ghost use Rattle.capi.specs.Numbers.{point_at};
 
 use plane::distance::distance_squared;
 use plane::unit::{cell_size, thousandths, to_millimetres};
@@ -19,7 +19,7 @@ pub extern "C" fn mittencrest_distance_v1(
     bx: u16,
     bz: u16,
 ) -> f32
-    ensures { result ≡ distanceSquared (pointAt px pz) (pointAt ax az) (pointAt bx bz) }
+    ensures { result ≡ distance_squared (point_at px pz) (point_at ax az) (point_at bx bz) }
 {
     distance_squared(
         Point { x: px, z: pz },
@@ -31,7 +31,7 @@ pub extern "C" fn mittencrest_distance_v1(
 // A length in millimetres.
 #[unsafe(no_mangle)]
 pub extern "C" fn mittencrest_millimetres_v1(inches: bool, size: f32) -> f32
-    ensures { result ≡ Units.millimetres (sizeIn inches size) }
+    ensures { result ≡ Units.millimetres (size_in inches size) }
 {
     to_millimetres(cell_size(inches, size))
 }

@@ -1,8 +1,8 @@
 // The mender.
 ghost use Rattle.std.specs.Prelude.{◌≡◌, length, get_or};
-ghost use Rattle.rules.specs.MendCall.{mendOutcome, mendReplyOf, mendWords, mendExit, oneContour};
+ghost use Rattle.rules.specs.MendCall.{mend_outcome, mend_reply_of, mend_words, mend_exit, one_contour};
 ghost use Rattle.mend.specs.Call.{lent_of};
-ghost use Rattle.capi.specs.Numbers.{threeLength};
+ghost use Rattle.capi.specs.Numbers.{three_length};
 
 use crate::three::put_three;
 use mend::job::{mend, mend_job};
@@ -10,8 +10,8 @@ use rules::MendReply;
 
 // The numbers of a mender's reply; the result is the reply's number.
 fn put_mended(reply: MendReply, words: &mut [u64]) -> u32
-    requires { length words.old ≡ threeLength }
-    ensures { (result ≡ get_or (mendWords reply) 0 0) × (words.new ≡ mendWords reply) }
+    requires { length words.old ≡ three_length }
+    ensures { (result ≡ get_or (mend_words reply) 0 0) × (words.new ≡ mend_words reply) }
 {
     match reply {
         MendReply::Mended(lost, kept) => put_three(words, 0, lost, kept),
@@ -31,12 +31,12 @@ pub extern "C" fn mittencrest_mend_v1(
     work: &mut [u32],
     answer: &mut [u64; 3],
 ) -> u32
-    ensures result { result ≡ get_or (mendWords (mendReplyOf (mendOutcome (oneContour numbers.old lost.old work.old)))) 0 0 }
-    ensures answer { answer.new ≡ mendWords (mendReplyOf (mendOutcome (oneContour numbers.old lost.old
+    ensures result { result ≡ get_or (mend_words (mend_reply_of (mend_outcome (one_contour numbers.old lost.old work.old)))) 0 0 }
+    ensures answer { answer.new ≡ mend_words (mend_reply_of (mend_outcome (one_contour numbers.old lost.old
         work.old))) }
-    ensures numbers { numbers.new ≡ (mendExit (oneContour numbers.old lost.old work.old)).numbers }
-    ensures lost { lost.new ≡ (mendExit (oneContour numbers.old lost.old work.old)).list }
-    ensures work { work.new ≡ (mendExit (oneContour numbers.old lost.old work.old)).work }
+    ensures numbers { numbers.new ≡ (mend_exit (one_contour numbers.old lost.old work.old)).numbers }
+    ensures lost { lost.new ≡ (mend_exit (one_contour numbers.old lost.old work.old)).list }
+    ensures work { work.new ≡ (mend_exit (one_contour numbers.old lost.old work.old)).work }
 {
     let reply = mend(numbers, lost, work);
     put_mended(reply, answer)
@@ -51,11 +51,11 @@ pub extern "C" fn mittencrest_mend_job_v1(
     work: &mut [u32],
     answer: &mut [u64; 3],
 ) -> u32
-    ensures result { result ≡ get_or (mendWords (mendReplyOf (mendOutcome
+    ensures result { result ≡ get_or (mend_words (mend_reply_of (mend_outcome
         (lent_of lengths.old numbers.old lost.old work.old)))) 0 0 }
-    ensures answer { answer.new ≡ mendWords (mendReplyOf (mendOutcome
+    ensures answer { answer.new ≡ mend_words (mend_reply_of (mend_outcome
         (lent_of lengths.old numbers.old lost.old work.old))) }
-    ensures words { lent_of lengths.new numbers.new lost.new work.new ≡ mendExit
+    ensures words { lent_of lengths.new numbers.new lost.new work.new ≡ mend_exit
         (lent_of lengths.old numbers.old lost.old work.old) }
 {
     let reply = mend_job(lengths, numbers, lost, work);

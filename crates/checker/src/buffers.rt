@@ -1,10 +1,10 @@
 // 40: buffers that agree in count, and numbers within 01's limits.
 ghost use Rattle.std.specs.Prelude.{◌≡◌, ◌+◌, ◌*◌, ◌≤◌, length};
-ghost use Rattle.rules.specs.Checks.{vertexStride, isHigh};
-ghost use Rattle.rules.specs.Handed.{buffersHold};
-ghost use Rattle.checker.specs.Asked.{handedIn};
-ghost use Rattle.stored.specs.Stored.{vertexIn};
-ghost use Rattle.checker.specs.Steps.{gridHolds};
+ghost use Rattle.rules.specs.Checks.{vertex_stride, is_high};
+ghost use Rattle.rules.specs.Handed.{buffers_hold};
+ghost use Rattle.checker.specs.Asked.{handed_in};
+ghost use Rattle.stored.specs.Stored.{vertex_in};
+ghost use Rattle.checker.specs.Steps.{grid_holds};
 
 use rules::VERTEX_STRIDE;
 
@@ -13,8 +13,8 @@ const COUNT_MOST: usize = 65535;
 
 // Whether x or z of vertex k is above 32,767.
 fn is_high(vertices: &[u16], k: usize) -> bool
-    requires { k * vertexStride + vertexStride ≤ length vertices.now }
-    ensures { result ≡ isHigh (vertexIn vertices.now k) }
+    requires { k * vertex_stride + vertex_stride ≤ length vertices.now }
+    ensures { result ≡ is_high (vertex_in vertices.now k) }
 {
     let at = k * VERTEX_STRIDE;
     (32767 < vertices[at]) | (32767 < vertices[at + 2])
@@ -22,8 +22,8 @@ fn is_high(vertices: &[u16], k: usize) -> bool
 
 // Whether that is so of none of n vertices.
 fn are_in_grid(vertices: &[u16], n: usize) -> bool
-    requires { n * vertexStride ≤ length vertices.now }
-    ensures { result ≡ gridHolds vertices.now n }
+    requires { n * vertex_stride ≤ length vertices.now }
+    ensures { result ≡ grid_holds vertices.now n }
 {
     let mut k = 0;
     while k < n {
@@ -37,7 +37,7 @@ fn are_in_grid(vertices: &[u16], n: usize) -> bool
 
 // Whether 40 passes. nvp comes first, since the polygons are counted by it; then the counts, so that no product wraps.
 pub fn buffers_hold(nvp: usize, vertices: &[u16], polygons: &[u16], links: &[u32]) -> bool
-    ensures { result ≡ buffersHold (handedIn nvp vertices.now polygons.now links.now) }
+    ensures { result ≡ buffers_hold (handed_in nvp vertices.now polygons.now links.now) }
 {
     if (nvp < 3) | (12 < nvp) {
         return false;

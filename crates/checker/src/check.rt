@@ -1,14 +1,14 @@
 // The refusals in their order: 40 to 42, which say whether a mesh is sound, and then 43 and 44.
 ghost use Rattle.std.specs.Prelude.{◌≡◌, cond, ◌-ℤ◌};
 ghost use Rattle.rules.specs.Plane.{is_zero};
-ghost use Rattle.rules.specs.Areas.{storedArea};
-ghost use Rattle.rules.specs.Handed.{polygonCount, firstFault, cornersHold, linksHold, orFault, soundness, GoodBuffers, Consistent};
-ghost use Rattle.rules.specs.Checker.{portalsHold, soundVerdict, verdict};
+ghost use Rattle.rules.specs.Areas.{stored_area};
+ghost use Rattle.rules.specs.Handed.{polygon_count, first_fault, corners_hold, links_hold, or_fault, soundness, GoodBuffers, Consistent};
+ghost use Rattle.rules.specs.Checker.{portals_hold, sound_verdict, verdict};
 ghost use Rattle.rules.specs.declared.Fault.TheVariants.{BadCorners, BadLinks};
 ghost use Rattle.rules.specs.declared.Soundness.TheVariants.{Sound};
 ghost use Rattle.rules.specs.declared.Verdict.TheVariants.{Accepted, BadArea};
-ghost use Rattle.stored.specs.Stored.{storedIn, MeshReady};
-ghost use Rattle.checker.specs.Asked.{handedIn, linksIn, claimIn};
+ghost use Rattle.stored.specs.Stored.{stored_in, MeshReady};
+ghost use Rattle.checker.specs.Asked.{handed_in, links_in, claim_in};
 ghost use Rattle.checker.specs.Steps.{RowsReady};
 
 use crate::buffers::buffers_hold;
@@ -20,8 +20,8 @@ use stored::area::mesh_area;
 
 // 42, of np polygons.
 fn links_sound(nvp: usize, np: usize, polygons: &[u16], links: &[u32]) -> Soundness
-    requires { RowsReady (linksIn nvp polygons.now links.now) × (np ≡ polygonCount (linksIn nvp polygons.now links.now)) }
-    ensures { result ≡ orFault BadLinks (firstFault (linksHold (linksIn nvp polygons.now links.now)) np) Sound }
+    requires { RowsReady (links_in nvp polygons.now links.now) × (np ≡ polygon_count (links_in nvp polygons.now links.now)) }
+    ensures { result ≡ or_fault BadLinks (first_fault (links_hold (links_in nvp polygons.now links.now)) np) Sound }
 {
     match first_bad_links(nvp, np, polygons, links) {
         Found::At(i) => Soundness::Broken(Fault::BadLinks(i as u64)),
@@ -31,9 +31,9 @@ fn links_sound(nvp: usize, np: usize, polygons: &[u16], links: &[u32]) -> Soundn
 
 // 41 and 42, of a mesh that has passed 40.
 fn rows_sound(nvp: usize, vertices: &[u16], polygons: &[u16], links: &[u32]) -> Soundness
-    requires { GoodBuffers (handedIn nvp vertices.now polygons.now links.now) }
-    ensures { result ≡ (let m = handedIn nvp vertices.now polygons.now links.now in
-        orFault BadCorners (firstFault (cornersHold m) (polygonCount m)) (orFault BadLinks (firstFault (linksHold m) (polygonCount m)) Sound)) }
+    requires { GoodBuffers (handed_in nvp vertices.now polygons.now links.now) }
+    ensures { result ≡ (let m = handed_in nvp vertices.now polygons.now links.now in
+        or_fault BadCorners (first_fault (corners_hold m) (polygon_count m)) (or_fault BadLinks (first_fault (links_hold m) (polygon_count m)) Sound)) }
 {
     let np = polygons.len() / nvp;
     match first_bad_corners(nvp, vertices.len() / VERTEX_STRIDE, np, polygons) {
@@ -44,7 +44,7 @@ fn rows_sound(nvp: usize, vertices: &[u16], polygons: &[u16], links: &[u32]) -> 
 
 // 40 to 42, which come first in every request that takes a mesh.
 pub fn soundness_of(nvp: u32, vertices: &[u16], polygons: &[u16], links: &[u32]) -> Soundness
-    ensures { result ≡ soundness (handedIn nvp vertices.now polygons.now links.now) }
+    ensures { result ≡ soundness (handed_in nvp vertices.now polygons.now links.now) }
 {
     let wide = nvp as usize;
     if buffers_hold(wide, vertices, polygons, links) {
@@ -63,7 +63,7 @@ fn area_verdict(
     polygons: &[u16],
 ) -> Verdict
     requires { MeshReady nvp np nv vertices.now polygons.now }
-    ensures { result ≡ cond (is_zero (storedArea (storedIn nvp np nv vertices.now polygons.now) -ℤ claim)) Accepted BadArea }
+    ensures { result ≡ cond (is_zero (stored_area (stored_in nvp np nv vertices.now polygons.now) -ℤ claim)) Accepted BadArea }
 {
     if mesh_area(nvp, np, nv, vertices, polygons) == claim {
         return Verdict::Accepted;
@@ -82,9 +82,9 @@ fn sound_verdict(
     polygons: &[u16],
     links: &[u32],
 ) -> Verdict
-    requires { Consistent (handedIn nvp vertices.now polygons.now links.now) }
-    ensures { result ≡ (let c = claimIn nvp w h border claim vertices.now polygons.now links.now in
-        soundVerdict c (firstFault (portalsHold c) (polygonCount c.mesh))) }
+    requires { Consistent (handed_in nvp vertices.now polygons.now links.now) }
+    ensures { result ≡ (let c = claim_in nvp w h border claim vertices.now polygons.now links.now in
+        sound_verdict c (first_fault (portals_hold c) (polygon_count c.mesh))) }
 {
     let np = polygons.len() / nvp;
     match first_bad_portals(nvp, np, w, h, border, vertices, polygons, links) {
@@ -113,7 +113,7 @@ pub fn check_mesh(
     polygons: &[u16],
     links: &[u32],
 ) -> Verdict
-    ensures { result ≡ verdict (claimIn nvp w h border claim vertices.now polygons.now links.now) }
+    ensures { result ≡ verdict (claim_in nvp w h border claim vertices.now polygons.now links.now) }
 {
     let sound = soundness_of(nvp, vertices, polygons, links);
     match sound {

@@ -1,7 +1,7 @@
 // 41: each polygon has 3 corners or more, all in range, and 65,535 after them.
 ghost use Rattle.std.specs.Prelude.{◌≡◌, ◌*◌, ◌≤◌, ltb, length, get_or};
-ghost use Rattle.rules.specs.Handed.{all_of, firstFault};
-ghost use Rattle.checker.specs.Steps.{rowHolds, row_at};
+ghost use Rattle.rules.specs.Handed.{all_of, first_fault};
+ghost use Rattle.checker.specs.Steps.{row_holds, row_at};
 
 use crate::unused::are_unused;
 use rules::Found;
@@ -24,7 +24,7 @@ fn are_vertices(row: &[u16], n: usize, nv: usize) -> bool
 
 // Whether the words of a polygon pass.
 fn row_holds(row: &[u16], nv: usize) -> bool
-    ensures { result ≡ rowHolds nv row.now }
+    ensures { result ≡ row_holds nv row.now }
 {
     let n = count_corners(row);
     if n < 3 {
@@ -39,7 +39,7 @@ fn row_holds(row: &[u16], nv: usize) -> bool
 // The first of np polygons, of nvp words each, that doesn't.
 pub fn first_bad_corners(nvp: usize, nv: usize, np: usize, polygons: &[u16]) -> Found
     requires { np * nvp ≤ length polygons.now }
-    ensures { result ≡ firstFault (λ i. rowHolds nv (row_at nvp polygons.now i)) np }
+    ensures { result ≡ first_fault (λ i. row_holds nv (row_at nvp polygons.now i)) np }
 {
     let mut i = 0;
     while i < np {

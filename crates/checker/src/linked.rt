@@ -1,7 +1,7 @@
 // 42, polygon by polygon: the links of its sides hold, and past its last corner they are 65,535.
 ghost use Rattle.std.specs.Prelude.{◌≡◌, ◌<◌, length};
-ghost use Rattle.rules.specs.Handed.{polygonCount, meshIn, all_of, firstFault, linkHolds, linksHold};
-ghost use Rattle.checker.specs.Asked.{linksIn};
+ghost use Rattle.rules.specs.Handed.{polygon_count, mesh_in, all_of, first_fault, link_holds, links_hold};
+ghost use Rattle.checker.specs.Asked.{links_in};
 ghost use Rattle.checker.specs.Steps.{RowsReady, PolygonAt};
 
 use crate::ends::corners_end;
@@ -19,8 +19,8 @@ fn sides_hold(
     own: &[u16],
     mine: &[u32],
 ) -> bool
-    requires { PolygonAt (linksIn nvp polygons.now links.now) np i own.now mine.now }
-    ensures { result ≡ all_of (linkHolds (meshIn (linksIn nvp polygons.now links.now)) i) 0 (length own.now) }
+    requires { PolygonAt (links_in nvp polygons.now links.now) np i own.now mine.now }
+    ensures { result ≡ all_of (link_holds (mesh_in (links_in nvp polygons.now links.now)) i) 0 (length own.now) }
 {
     let mut j = 0;
     while j < own.len() {
@@ -35,8 +35,8 @@ fn sides_hold(
 
 // Whether the links of polygon i pass.
 fn links_hold(nvp: usize, np: usize, polygons: &[u16], links: &[u32], i: usize) -> bool
-    requires { RowsReady (linksIn nvp polygons.now links.now) × (np ≡ polygonCount (linksIn nvp polygons.now links.now)) × (i < np) }
-    ensures { result ≡ linksHold (linksIn nvp polygons.now links.now) i }
+    requires { RowsReady (links_in nvp polygons.now links.now) × (np ≡ polygon_count (links_in nvp polygons.now links.now)) × (i < np) }
+    ensures { result ≡ links_hold (links_in nvp polygons.now links.now) i }
 {
     let from = i * nvp;
     let to = corners_end(nvp, polygons, i);
@@ -57,8 +57,8 @@ fn links_hold(nvp: usize, np: usize, polygons: &[u16], links: &[u32], i: usize) 
 
 // The first of np polygons whose links don't.
 pub fn first_bad_links(nvp: usize, np: usize, polygons: &[u16], links: &[u32]) -> Found
-    requires { RowsReady (linksIn nvp polygons.now links.now) × (np ≡ polygonCount (linksIn nvp polygons.now links.now)) }
-    ensures { result ≡ firstFault (linksHold (linksIn nvp polygons.now links.now)) np }
+    requires { RowsReady (links_in nvp polygons.now links.now) × (np ≡ polygon_count (links_in nvp polygons.now links.now)) }
+    ensures { result ≡ first_fault (links_hold (links_in nvp polygons.now links.now)) np }
 {
     let mut i = 0;
     while i < np {

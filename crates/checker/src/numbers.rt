@@ -1,13 +1,13 @@
 // The numbers of faults and verdicts, as request 7 has them.
 ghost use Rattle.std.specs.Prelude.{◌≡◌};
-ghost use Rattle.rules.specs.Handed.{faultNumber, faultSecond};
-ghost use Rattle.rules.specs.Checker.{verdictNumber, verdictSecond};
+ghost use Rattle.rules.specs.Handed.{fault_number, fault_second};
+ghost use Rattle.rules.specs.Checker.{verdict_number, verdict_second};
 
 use rules::{Fault, Verdict};
 
 // A fault's number, 40 to 42.
 pub fn fault_number(fault: Fault) -> u64
-    ensures { result ≡ faultNumber fault }
+    ensures { result ≡ fault_number fault }
 {
     match fault {
         Fault::BadBuffers => 40,
@@ -18,7 +18,7 @@ pub fn fault_number(fault: Fault) -> u64
 
 // Its second number: the first polygon at fault, or 0.
 pub fn fault_second(fault: Fault) -> u64
-    ensures { result ≡ faultSecond fault }
+    ensures { result ≡ fault_second fault }
 {
     match fault {
         Fault::BadBuffers => 0,
@@ -29,7 +29,7 @@ pub fn fault_second(fault: Fault) -> u64
 
 // A verdict's number: 0, or 40 to 44.
 pub fn verdict_number(verdict: Verdict) -> u64
-    ensures { result ≡ verdictNumber verdict }
+    ensures { result ≡ verdict_number verdict }
 {
     match verdict {
         Verdict::Accepted => 0,
@@ -41,7 +41,7 @@ pub fn verdict_number(verdict: Verdict) -> u64
 
 // Its second number, in the same way.
 pub fn verdict_second(verdict: Verdict) -> u64
-    ensures { result ≡ verdictSecond verdict }
+    ensures { result ≡ verdict_second verdict }
 {
     match verdict {
         Verdict::Accepted => 0,

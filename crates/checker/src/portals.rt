@@ -2,12 +2,12 @@
 ghost use Rattle.std.specs.Prelude.{◌≡◌, cond, ◌/◌, ◌<◌, ltb, length};
 ghost use Rattle.rules.specs.Mesh.{place_of};
 ghost use Rattle.rules.specs.Links.{none};
-ghost use Rattle.rules.specs.Portals.{portalOf};
-ghost use Rattle.rules.specs.Checks.{vertexStride};
-ghost use Rattle.rules.specs.Handed.{polygonCount, all_of, firstFault, Consistent};
-ghost use Rattle.rules.specs.Checker.{portalsHold};
-ghost use Rattle.checker.specs.Asked.{handedIn, unclaimedIn};
-ghost use Rattle.checker.specs.Steps.{verticesIn, sideBears, SidesReady};
+ghost use Rattle.rules.specs.Portals.{portal_of};
+ghost use Rattle.rules.specs.Checks.{vertex_stride};
+ghost use Rattle.rules.specs.Handed.{polygon_count, all_of, first_fault, Consistent};
+ghost use Rattle.rules.specs.Checker.{portals_hold};
+ghost use Rattle.checker.specs.Asked.{handed_in, unclaimed_in};
+ghost use Rattle.checker.specs.Steps.{vertices_in, side_bears, SidesReady};
 
 use crate::ends::corners_end;
 use links::portals::portal_of;
@@ -17,8 +17,8 @@ use rules::{Found, Point, VERTEX_STRIDE};
 
 // The place of vertex c.
 fn place_at(vertices: &[u16], c: u16) -> Point
-    requires { c < length vertices.now / vertexStride }
-    ensures { result ≡ place_of (verticesIn vertices.now) c }
+    requires { c < length vertices.now / vertex_stride }
+    ensures { result ≡ place_of (vertices_in vertices.now) c }
 {
     let at = c as usize * VERTEX_STRIDE;
     Point {
@@ -29,9 +29,9 @@ fn place_at(vertices: &[u16], c: u16) -> Point
 
 // What R7 gives an open side from vertex a to vertex b: a portal or none; and none if the border is 0.
 fn open_link(vertices: &[u16], w: u16, h: u16, border: u16, a: u16, b: u16) -> u32
-    requires { (a < length vertices.now / vertexStride) × (b < length vertices.now / vertexStride) }
+    requires { (a < length vertices.now / vertex_stride) × (b < length vertices.now / vertex_stride) }
     ensures { result ≡ cond (ltb 0 border)
-        (portalOf w h (place_of (verticesIn vertices.now) a) (place_of (verticesIn vertices.now) b)) none }
+        (portal_of w h (place_of (vertices_in vertices.now) a) (place_of (vertices_in vertices.now) b)) none }
 {
     if 0 < border {
         let p = place_at(vertices, a);
@@ -52,7 +52,7 @@ fn side_bears(
     j: usize,
 ) -> bool
     requires { SidesReady vertices.now own.now mine.now × (j < length own.now) }
-    ensures { result ≡ sideBears vertices.now w h border own.now mine.now j }
+    ensures { result ≡ side_bears vertices.now w h border own.now mine.now j }
 {
     let l = mine[j];
     if l < NONE {
@@ -65,7 +65,7 @@ fn side_bears(
 // Whether that is so of each of its sides.
 fn sides_bear(vertices: &[u16], w: u16, h: u16, border: u16, own: &[u16], mine: &[u32]) -> bool
     requires { SidesReady vertices.now own.now mine.now }
-    ensures { result ≡ all_of (sideBears vertices.now w h border own.now mine.now) 0 (length own.now) }
+    ensures { result ≡ all_of (side_bears vertices.now w h border own.now mine.now) 0 (length own.now) }
 {
     let mut j = 0;
     while j < own.len() {
@@ -89,9 +89,9 @@ fn portals_hold(
     links: &[u32],
     i: usize,
 ) -> bool
-    requires { Consistent (handedIn nvp vertices.now polygons.now links.now)
-        × (i < polygonCount (handedIn nvp vertices.now polygons.now links.now)) }
-    ensures { result ≡ portalsHold (unclaimedIn nvp w h border vertices.now polygons.now links.now) i }
+    requires { Consistent (handed_in nvp vertices.now polygons.now links.now)
+        × (i < polygon_count (handed_in nvp vertices.now polygons.now links.now)) }
+    ensures { result ≡ portals_hold (unclaimed_in nvp w h border vertices.now polygons.now links.now) i }
 {
     let from = i * nvp;
     let to = corners_end(nvp, polygons, i);
@@ -116,9 +116,9 @@ pub fn first_bad_portals(
     polygons: &[u16],
     links: &[u32],
 ) -> Found
-    requires { Consistent (handedIn nvp vertices.now polygons.now links.now)
-        × (np ≡ polygonCount (handedIn nvp vertices.now polygons.now links.now)) }
-    ensures { result ≡ firstFault (portalsHold (unclaimedIn nvp w h border vertices.now polygons.now links.now)) np }
+    requires { Consistent (handed_in nvp vertices.now polygons.now links.now)
+        × (np ≡ polygon_count (handed_in nvp vertices.now polygons.now links.now)) }
+    ensures { result ≡ first_fault (portals_hold (unclaimed_in nvp w h border vertices.now polygons.now links.now)) np }
 {
     let mut i = 0;
     while i < np {

@@ -1,7 +1,7 @@
 // 42, side by side: a link names another polygon, with a side that runs the other way and names it back.
 ghost use Rattle.std.specs.Prelude.{◌≡◌, ◌<◌, [], length, get_or};
-ghost use Rattle.rules.specs.Handed.{polygonCount, meshIn, cornersAt, any_of, namesBack, linkHolds};
-ghost use Rattle.checker.specs.Asked.{linksIn};
+ghost use Rattle.rules.specs.Handed.{polygon_count, mesh_in, corners_at, any_of, names_back, link_holds};
+ghost use Rattle.checker.specs.Asked.{links_in};
 ghost use Rattle.checker.specs.Steps.{RowsReady, PolygonAt};
 
 use crate::ends::corners_end;
@@ -14,7 +14,7 @@ const LAST_PORTAL: u32 = 65539;
 // Whether side q of a polygon with these corners and links runs from b to a, and its link is i.
 fn names_back(corners: &[u16], links: &[u32], a: u16, b: u16, i: u32, q: usize) -> bool
     requires { (q < length corners.now) × (length links.now ≡ length corners.now) }
-    ensures { result ≡ namesBack corners.now links.now a b i q }
+    ensures { result ≡ names_back corners.now links.now a b i q }
 {
     if corners[q] == b {
         let e = next(q, corners.len());
@@ -28,7 +28,7 @@ fn names_back(corners: &[u16], links: &[u32], a: u16, b: u16, i: u32, q: usize) 
 // Whether some side does.
 fn is_named_back(corners: &[u16], links: &[u32], a: u16, b: u16, i: u32) -> bool
     requires { length links.now ≡ length corners.now }
-    ensures { result ≡ any_of (namesBack corners.now links.now a b i) 0 (length corners.now) }
+    ensures { result ≡ any_of (names_back corners.now links.now a b i) 0 (length corners.now) }
 {
     let mut q = 0;
     while q < corners.len() {
@@ -50,9 +50,9 @@ fn polygon_names_back(
     b: u16,
     i: u32,
 ) -> bool
-    requires { RowsReady (linksIn nvp polygons.now links.now) × (l < polygonCount (linksIn nvp polygons.now links.now)) }
-    ensures { result ≡ (let s = meshIn (linksIn nvp polygons.now links.now) in
-        any_of (namesBack (cornersAt s l) (get_or s.links l []) a b i) 0 (length (cornersAt s l))) }
+    requires { RowsReady (links_in nvp polygons.now links.now) × (l < polygon_count (links_in nvp polygons.now links.now)) }
+    ensures { result ≡ (let s = mesh_in (links_in nvp polygons.now links.now) in
+        any_of (names_back (corners_at s l) (get_or s.links l []) a b i) 0 (length (corners_at s l))) }
 {
     let from = l * nvp;
     let to = corners_end(nvp, polygons, l);
@@ -70,8 +70,8 @@ pub fn link_holds(
     mine: &[u32],
     j: usize,
 ) -> bool
-    requires { PolygonAt (linksIn nvp polygons.now links.now) np i own.now mine.now × (j < length own.now) }
-    ensures { result ≡ linkHolds (meshIn (linksIn nvp polygons.now links.now)) i j }
+    requires { PolygonAt (links_in nvp polygons.now links.now) np i own.now mine.now × (j < length own.now) }
+    ensures { result ≡ link_holds (mesh_in (links_in nvp polygons.now links.now)) i j }
 {
     let l = mine[j];
     if NONE <= l {

@@ -1,13 +1,13 @@
 // Words past a polygon's last corner: corners and links there are 65,535.
 ghost use Rattle.std.specs.Prelude.{◌≡◌};
-ghost use Rattle.checker.specs.Steps.{unusedFrom};
+ghost use Rattle.checker.specs.Steps.{unused_from};
 
 use records::polygon::NONE;
 use stored::corners::UNUSED;
 
 // Whether all words of a row of corners from this one on are 65,535.
 pub fn are_unused(row: &[u16], from: usize) -> bool
-    ensures { result ≡ unusedFrom row.now from }
+    ensures { result ≡ unused_from row.now from }
 {
     let mut k = from;
     while k < row.len() {
@@ -21,7 +21,7 @@ pub fn are_unused(row: &[u16], from: usize) -> bool
 
 // The same of a row of links.
 pub fn are_unlinked(row: &[u32], from: usize) -> bool
-    ensures { result ≡ unusedFrom row.now from }
+    ensures { result ≡ unused_from row.now from }
 {
     let mut k = from;
     while k < row.len() {

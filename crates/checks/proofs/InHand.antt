@@ -7,8 +7,8 @@ use native.Mathlib.Omega.{arith}
 use lib.Dec.{ltb, eqb}
 use lib.ListN.{length}
 use borrow.Author.Tests.{le-leb, lt-leb}
-use Rattle.rules.specs.Job.{Job, jobStride}
-use Rattle.rules.specs.Checks.{refuseIf, refuseAt, checkNvp, countsAgree, checkV, firstShort}
+use Rattle.rules.specs.Job.{Job, job_stride}
+use Rattle.rules.specs.Checks.{refuse_if, refuse_at, check_nvp, counts_agree, check_v, first_short}
 use Rattle.rules.specs.declared.Found.{Found}
 use Rattle.rules.specs.declared.Found.TheVariants.{At, Nothing}
 use Rattle.rules.specs.declared.Refusal.{Refusal}
@@ -16,55 +16,55 @@ use Rattle.rules.specs.declared.Refusal.TheVariants.{BadCornerLimit, HighCoordin
 use Rattle.laws.specs.Checks.{Agreed, T-below-V}
 use Rattle.checks.specs.declared.check.Verdict.{Verdict}
 use Rattle.checks.specs.declared.check.Verdict.TheVariants.{Passed, Refused}
-use Rattle.checks.specs.Sums.{sumAll, sumV, sumT, all-is, v-is, t-is}
+use Rattle.checks.specs.Sums.{sum_all, sum_v, sum_t, all_is, v_is, t_is}
 use Rattle.checks.specs.Answers.{verdictOf, first_of, first-of, firstHighIn, firstBadFlagIn, high_is, flag_is, leastOf, least-is}
-use Rattle.checks.proofs.Order.{vertexChecks, room_check}
+use Rattle.checks.proofs.Order.{vertex_checks, room_check}
 
 -- what a search found, as a verdict
 module _ (r : ℕ → Refusal) {f g : Found} (e : f ≡ g) where
-  pub found_at : {k : ℕ} → f ≡ At k → Refused (r k) ≡ verdictOf (refuseAt r g)
-  unfolding verdictOf refuseAt
+  pub found_at : {k : ℕ} → f ≡ At k → Refused (r k) ≡ verdictOf (refuse_at r g)
+  unfolding verdictOf refuse_at
   found_at q = rw (← e, q) refl
 
-  pub found_none : f ≡ Nothing → Passed ≡ verdictOf (refuseAt r g)
-  unfolding verdictOf refuseAt
+  pub found_none : f ≡ Nothing → Passed ≡ verdictOf (refuse_at r g)
+  unfolding verdictOf refuse_at
   found_none q = rw (← e, q) refl
 
 module _ (j : Job) where
   -- 1
-  pub limit_is : {nvp : ℕ} (bad : Bool) → j.nvp ≡ nvp → (ltb nvp 3 || ltb 12 nvp) ≡ bad → verdictOf (refuseIf bad (BadCornerLimit nvp)) ≡ verdictOf (checkNvp j)
-  unfolding checkNvp
+  pub limit_is : {nvp : ℕ} (bad : Bool) → j.nvp ≡ nvp → (ltb nvp 3 || ltb 12 nvp) ≡ bad → verdictOf (refuse_if bad (BadCornerLimit nvp)) ≡ verdictOf (check_nvp j)
+  unfolding check_nvp
   limit_is bad e q = rw (e, q) refl
 
   -- 2: whether the counts agree
-  pub too_many : 65535 < length j.lengths → false ≡ countsAgree j
-  unfolding countsAgree
+  pub too_many : 65535 < length j.lengths → false ≡ counts_agree j
+  unfolding counts_agree
   too_many h = rw (lt-leb (length j.lengths) 65535 h) (simp and-false)
 
-  pub agree-is : {n : ℕ} → n ≡ sumAll j.lengths → length j.lengths ≤ 65535
-      → (eqb (length j.regions) (length j.lengths) && (eqb (length j.codes) (length j.lengths) && eqb (length j.numbers) (n * jobStride))) ≡ countsAgree j
-  unfolding countsAgree
-  agree-is e h = rw (le-leb (length j.lengths) 65535 h, e, all-is) (simp and-true)
+  pub agree_is : {n : ℕ} → n ≡ sum_all j.lengths → length j.lengths ≤ 65535
+      → (eqb (length j.regions) (length j.lengths) && (eqb (length j.codes) (length j.lengths) && eqb (length j.numbers) (n * job_stride))) ≡ counts_agree j
+  unfolding counts_agree
+  agree_is e h = rw (le-leb (length j.lengths) 65535 h, e, all_is) (simp and-true)
 
   -- once they do: four numbers for each vertex that the lengths speak of
-  pub numbers_fit : {n : ℕ} → Agreed j → n ≡ sumAll j.lengths → n * jobStride ≤ length j.numbers
-  numbers_fit a e = omega (arith, a.numbers, all-is j)
+  pub numbers_fit : {n : ℕ} → Agreed j → n ≡ sum_all j.lengths → n * job_stride ≤ length j.numbers
+  numbers_fit a e = omega (arith, a.numbers, all_is j)
 
   -- 3 and 4, of as many vertices as the lengths say
-  pub vertices-are : {n : ℕ} {high flags vertices : Verdict} → n ≡ sumAll j.lengths
-      → high ≡ verdictOf (refuseAt HighCoordinate (firstHighIn j.numbers n))
-      → flags ≡ verdictOf (refuseAt BadFlag (firstBadFlagIn j.numbers n)) → vertices ≡ first_of high flags → vertices ≡ verdictOf (vertexChecks j)
-  vertices-are e a b q = rw (first-of, high_is, flag_is, all-is, ← e, ← a, ← b) q
+  pub vertices_are : {n : ℕ} {high flags vertices : Verdict} → n ≡ sum_all j.lengths
+      → high ≡ verdictOf (refuse_at HighCoordinate (firstHighIn j.numbers n))
+      → flags ≡ verdictOf (refuse_at BadFlag (firstBadFlagIn j.numbers n)) → vertices ≡ first_of high flags → vertices ≡ verdictOf (vertex_checks j)
+  vertices_are e a b q = rw (first-of, high_is, flag_is, all_is, ← e, ← a, ← b) q
 
   -- 5
-  pub many_is : {v : ℕ} {many : Verdict} → v ≡ sumV j.lengths → many ≡ verdictOf (refuseIf (ltb 65535 v) (TooManyVertices v)) → many ≡ verdictOf (checkV j)
-  unfolding checkV
-  many_is e q = rw (v-is, ← e) q
+  pub many_is : {v : ℕ} {many : Verdict} → v ≡ sum_v j.lengths → many ≡ verdictOf (refuse_if (ltb 65535 v) (TooManyVertices v)) → many ≡ verdictOf (check_v j)
+  unfolding check_v
+  many_is e q = rw (v_is, ← e) q
 
   -- 6
-  module _ {v t : ℕ} (e : v ≡ sumV j.lengths) (f : t ≡ sumT j.lengths) where
-    pub t-below : t ≤ v
-    t-below = omega (arith, T-below-V j, v-is j, t-is j)
+  module _ {v t : ℕ} (e : v ≡ sum_v j.lengths) (f : t ≡ sum_t j.lengths) where
+    pub t_below : t ≤ v
+    t_below = omega (arith, T-below-V j, v_is j, t_is j)
 
-    pub room-is : (ls : List ℕ) {room : Verdict} → room ≡ verdictOf (refuseAt ShortBuffer (firstShort ls (leastOf j.nvp v t))) → room ≡ verdictOf (room_check j ls)
-    room-is ls q = rw (least-is, v-is, t-is, ← e, ← f) q
+    pub room_is : (ls : List ℕ) {room : Verdict} → room ≡ verdictOf (refuse_at ShortBuffer (first_short ls (leastOf j.nvp v t))) → room ≡ verdictOf (room_check j ls)
+    room_is ls q = rw (least-is, v_is, t_is, ← e, ← f) q

@@ -16,17 +16,17 @@ pub record Seeking (test : ℕ → Bool) (n k : ℕ) (found : Found) : Type 0 wh
   pub left : Left Nothing or_else (λ i. when (test i) i) (λ r. r) (first test n) n k
   pub nothing : found ≡ Nothing
 
-pub seek-begin : (test : ℕ → Bool) (n : ℕ) → Seeking test n 0 Nothing
-seek-begin test n = record { left = record { same = refl }; nothing = refl }
+pub seek_begin : (test : ℕ → Bool) (n : ℕ) → Seeking test n 0 Nothing
+seek_begin test n = record { left = record { same = refl }; nothing = refl }
 
 module _ {test : ℕ → Bool} {n k : ℕ} {found : Found} (s : Seeking test n k found) where
-  pub seek-next : k < n → test k ≡ false → Seeking test n (k + 1) found
+  pub seek_next : k < n → test k ≡ false → Seeking test n (k + 1) found
   unfolding when or_else
-  seek-next h e = record { left = next s.left h (λ r. rw e); nothing = s.nothing }
+  seek_next h e = record { left = next s.left h (λ r. rw e); nothing = s.nothing }
 
   pub seek_hit : k < n → test k ≡ true → At k ≡ first test n
   unfolding when or_else
   seek_hit h e = sym (turn s.left h ∙ rw e)
 
-  pub seek-end : n ≤ k → found ≡ first test n
-  seek-end h = s.nothing ∙ sym (end s.left h)
+  pub seek_end : n ≤ k → found ≡ first test n
+  seek_end h = s.nothing ∙ sym (end s.left h)

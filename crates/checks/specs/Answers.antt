@@ -4,8 +4,8 @@ use Rattle.std.specs.Prelude.{◌≡◌, refl, List, [], ◌∷◌, ℕ, ◌+◌
 use Rattle.std.proofs.Common.{arith}
 use Rattle.mem.specs.Loops.{over}
 use Rattle.rules.specs.Lists.{when, or_else}
-use Rattle.rules.specs.Job.{Job, vertexAt, flagAt, countAll, countV, count_t}
-use Rattle.rules.specs.Checks.{Checked, passed, refusal, orNext, vertexStride, workWords, leastLengths, isHigh, firstHigh, firstBadFlag}
+use Rattle.rules.specs.Job.{Job, vertex_at, flag_at, count_all, count_v, count_t}
+use Rattle.rules.specs.Checks.{Checked, passed, refusal, or_next, vertex_stride, work_words, least_lengths, is_high, first_high, first_bad_flag}
 use Rattle.rules.specs.declared.Found.{Found}
 use Rattle.rules.specs.declared.Found.TheVariants.{Nothing}
 use Rattle.rules.specs.declared.Refusal.{Refusal}
@@ -16,18 +16,18 @@ use Rattle.checks.specs.declared.check.Verdict.TheVariants.{Passed, Refused}
 abbrev pub job_of : ℕ → ℕ → ℕ → ℕ → List ℕ → List ℕ → List ℕ → List ℕ → Job
 job_of nvp w h border ls rs cs ns = record { nvp = nvp; w = w; h = h; border = border; lengths = ls; regions = rs; codes = cs; numbers = ns }
 
--- the answer of the code, case by case: it may be built, or the refusal, whose number and second number are the rules' `refusalNumber` and `refusalSecond`
+-- the answer of the code, case by case: it may be built, or the refusal, whose number and second number are the rules' `refusal_number` and `refusal_second`
 unfoldable pub verdictOf : Checked → Verdict
 verdictOf passed = Passed
 verdictOf (refusal r) = Refused r
 
--- the first of two verdicts that refuses: the rules' `orNext`, of verdicts
+-- the first of two verdicts that refuses: the rules' `or_next`, of verdicts
 unfoldable pub first_of : Verdict → Verdict → Verdict
 first_of Passed v = v
 first_of (Refused r) v = Refused r
 
-pub first-of : (a b : Checked) → verdictOf (orNext a b) ≡ first_of (verdictOf a) (verdictOf b)
-unfolding verdictOf first_of orNext
+pub first-of : (a b : Checked) → verdictOf (or_next a b) ≡ first_of (verdictOf a) (verdictOf b)
+unfolding verdictOf first_of or_next
 first-of passed b = refl
 first-of (refusal r) b = refl
 
@@ -42,31 +42,31 @@ unfolding verdictOf
 is-refusal passed r e = let z : ◌≡◌ {A = ℕ} 0 1 = cc in absurd (omega arith)
 is-refusal (refusal q) r e = cc
 
--- the rules' `firstHigh` and `firstBadFlag`, of n vertices of the numbers ns
+-- the rules' `first_high` and `first_bad_flag`, of n vertices of the numbers ns
 unfoldable pub firstHighIn : List ℕ → ℕ → Found
-firstHighIn ns n = over Nothing or_else (λ k. when (isHigh (vertexAt ns k)) k) 0 n
+firstHighIn ns n = over Nothing or_else (λ k. when (is_high (vertex_at ns k)) k) 0 n
 
 unfoldable pub firstBadFlagIn : List ℕ → ℕ → Found
-firstBadFlagIn ns n = over Nothing or_else (λ k. when (ltb 1 (flagAt ns k)) k) 0 n
+firstBadFlagIn ns n = over Nothing or_else (λ k. when (ltb 1 (flag_at ns k)) k) 0 n
 
-pub high_is : (j : Job) → firstHigh j ≡ firstHighIn j.numbers (countAll j)
-unfolding firstHigh firstHighIn
+pub high_is : (j : Job) → first_high j ≡ firstHighIn j.numbers (count_all j)
+unfolding first_high firstHighIn
 high_is j = refl
 
-pub flag_is : (j : Job) → firstBadFlag j ≡ firstBadFlagIn j.numbers (countAll j)
-unfolding firstBadFlag firstBadFlagIn
+pub flag_is : (j : Job) → first_bad_flag j ≡ firstBadFlagIn j.numbers (count_all j)
+unfolding first_bad_flag firstBadFlagIn
 flag_is j = refl
 
 -- numbers that have passed replies 1 and 5: no least length of theirs wraps
 pub record Sized (nvp v t : ℕ) : Type 0 where
-  pub nvp-most : nvp ≤ 12
-  pub v-most : v ≤ 65535
-  pub t-most : t ≤ v
+  pub nvp_most : nvp ≤ 12
+  pub v_most : v ≤ 65535
+  pub t_most : t ≤ v
 
--- the rules' `leastLengths`, of nvp, V and T
+-- the rules' `least_lengths`, of nvp, V and T
 unfoldable pub leastOf : ℕ → ℕ → ℕ → List ℕ
-leastOf nvp v t = (vertexStride * v) ∷ (t * nvp) ∷ (t * nvp) ∷ t ∷ t ∷ t ∷ (4096 + 128 * v) ∷ []
+leastOf nvp v t = (vertex_stride * v) ∷ (t * nvp) ∷ (t * nvp) ∷ t ∷ t ∷ t ∷ (4096 + 128 * v) ∷ []
 
-pub least-is : (j : Job) → leastLengths j ≡ leastOf j.nvp (countV j) (count_t j)
-unfolding leastLengths leastOf workWords
+pub least-is : (j : Job) → least_lengths j ≡ leastOf j.nvp (count_v j) (count_t j)
+unfolding least_lengths leastOf work_words
 least-is j = refl

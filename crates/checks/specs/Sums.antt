@@ -1,7 +1,7 @@
 -- The sums over the contours' lengths: all vertices, V and T of a list of lengths. Assumes nothing.
--- Key: `all-is`, `v-is`, `t-is`: they are the rules' of any job with that list.
+-- Key: `all_is`, `v_is`, `t_is`: they are the rules' of any job with that list.
 use Rattle.std.specs.Prelude.{◌≡◌, refl, cond, List, ℕ, ◌-◌, ◌^◌, ◌≤◌, ◌<◌, leb}
-use Rattle.rules.specs.Job.{Job, sumOver, countAll, countV, count_t}
+use Rattle.rules.specs.Job.{Job, sum_over, count_all, count_v, count_t}
 use Rattle.checks.specs.declared.counts.Part.{Part}
 use Rattle.checks.specs.declared.counts.Part.TheVariants.{All, Points, Triangles}
 
@@ -11,27 +11,27 @@ part_of All n = n
 part_of Points n = cond (leb 3 n) n 0
 part_of Triangles n = cond (leb 3 n) (n - 2) 0
 
--- the rules' `countAll`, `countV` and `count_t`, of a list of lengths
-unfoldable pub sumAll : List ℕ → ℕ
-sumAll ls = sumOver (part_of All) ls
+-- the rules' `count_all`, `count_v` and `count_t`, of a list of lengths
+unfoldable pub sum_all : List ℕ → ℕ
+sum_all ls = sum_over (part_of All) ls
 
-unfoldable pub sumV : List ℕ → ℕ
-sumV ls = sumOver (part_of Points) ls
+unfoldable pub sum_v : List ℕ → ℕ
+sum_v ls = sum_over (part_of Points) ls
 
-unfoldable pub sumT : List ℕ → ℕ
-sumT ls = sumOver (part_of Triangles) ls
+unfoldable pub sum_t : List ℕ → ℕ
+sum_t ls = sum_over (part_of Triangles) ls
 
-pub all-is : (j : Job) → countAll j ≡ sumAll j.lengths
-unfolding countAll sumAll part_of
-all-is j = refl
+pub all_is : (j : Job) → count_all j ≡ sum_all j.lengths
+unfolding count_all sum_all part_of
+all_is j = refl
 
-pub v-is : (j : Job) → countV j ≡ sumV j.lengths
-unfolding countV sumV part_of
-v-is j = refl
+pub v_is : (j : Job) → count_v j ≡ sum_v j.lengths
+unfolding count_v sum_v part_of
+v_is j = refl
 
-pub t-is : (j : Job) → count_t j ≡ sumT j.lengths
-unfolding count_t sumT part_of
-t-is j = refl
+pub t_is : (j : Job) → count_t j ≡ sum_t j.lengths
+unfolding count_t sum_t part_of
+t_is j = refl
 
 -- r is what a contour of n vertices adds
 pub record Added (part : Part) (n r : ℕ) : Type 0 where

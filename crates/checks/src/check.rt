@@ -1,7 +1,7 @@
 // Replies 1 to 6, in the document's order: the first that applies.
 ghost use Rattle.std.specs.Prelude.{◌≡◌, ℕ, ◌*◌, ◌≤◌, ltb, length};
-ghost use Rattle.rules.specs.Job.{Job, jobStride};
-ghost use Rattle.rules.specs.Checks.{refuseIf, refuseAt, checkNvp, checkCounts, firstShort, check};
+ghost use Rattle.rules.specs.Job.{Job, job_stride};
+ghost use Rattle.rules.specs.Checks.{refuse_if, refuse_at, check_nvp, check_counts, first_short, check};
 ghost use Rattle.rules.specs.declared.Refusal.TheVariants.{HighCoordinate, BadFlag, TooManyVertices, ShortBuffer};
 ghost use Rattle.checks.specs.Answers.{job_of, verdictOf, first_of, firstHighIn, firstBadFlagIn, Sized, leastOf};
 
@@ -29,7 +29,7 @@ fn or_next(a: Verdict, b: Verdict) -> Verdict
 
 // 1: nvp below 3 or above 12.
 fn check_nvp(nvp: u32) -> Verdict
-    ensures { (j : Job) → j.nvp ≡ nvp → result ≡ verdictOf (checkNvp j) }
+    ensures { (j : Job) → j.nvp ≡ nvp → result ≡ verdictOf (check_nvp j) }
 {
     if (nvp < 3) | (12 < nvp) {
         return Verdict::Refused(Refusal::BadCornerLimit(nvp as u64));
@@ -39,7 +39,7 @@ fn check_nvp(nvp: u32) -> Verdict
 
 // 2: the lists don't agree in count, or there are over 65,535 contours.
 fn check_counts(lengths: &[u32], regions: &[u16], codes: &[u8], numbers: &[u16]) -> Verdict
-    ensures { (nvp w h border : ℕ) → result ≡ verdictOf (checkCounts (job_of nvp w h border lengths.now regions.now codes.now numbers.now)) }
+    ensures { (nvp w h border : ℕ) → result ≡ verdictOf (check_counts (job_of nvp w h border lengths.now regions.now codes.now numbers.now)) }
 {
     if counts_agree(lengths, regions, codes, numbers) {
         return Verdict::Passed;
@@ -49,8 +49,8 @@ fn check_counts(lengths: &[u32], regions: &[u16], codes: &[u8], numbers: &[u16])
 
 // 3: x or z of a vertex is above 32,767.
 fn check_high(numbers: &[u16], n: usize) -> Verdict
-    requires { n * jobStride ≤ length numbers.now }
-    ensures { result ≡ verdictOf (refuseAt HighCoordinate (firstHighIn numbers.now n)) }
+    requires { n * job_stride ≤ length numbers.now }
+    ensures { result ≡ verdictOf (refuse_at HighCoordinate (firstHighIn numbers.now n)) }
 {
     match first_high(numbers, n) {
         Found::At(k) => Verdict::Refused(Refusal::HighCoordinate(k as u64)),
@@ -60,8 +60,8 @@ fn check_high(numbers: &[u16], n: usize) -> Verdict
 
 // 4: the flag of a vertex is neither 0 nor 1.
 fn check_flags(numbers: &[u16], n: usize) -> Verdict
-    requires { n * jobStride ≤ length numbers.now }
-    ensures { result ≡ verdictOf (refuseAt BadFlag (firstBadFlagIn numbers.now n)) }
+    requires { n * job_stride ≤ length numbers.now }
+    ensures { result ≡ verdictOf (refuse_at BadFlag (firstBadFlagIn numbers.now n)) }
 {
     match first_bad_flag(numbers, n) {
         Found::At(k) => Verdict::Refused(Refusal::BadFlag(k as u64)),
@@ -71,7 +71,7 @@ fn check_flags(numbers: &[u16], n: usize) -> Verdict
 
 // 5: V is above 65,535.
 fn check_v(v: usize) -> Verdict
-    ensures { result ≡ verdictOf (refuseIf (ltb 65535 v) (TooManyVertices v)) }
+    ensures { result ≡ verdictOf (refuse_if (ltb 65535 v) (TooManyVertices v)) }
 {
     if 65535 < v {
         return Verdict::Refused(Refusal::TooManyVertices(v as u64));
@@ -82,7 +82,7 @@ fn check_v(v: usize) -> Verdict
 // 6: a lent buffer is too short.
 fn check_room(nvp: u32, v: usize, t: usize, have: [usize; BUFFERS]) -> Verdict
     requires { Sized nvp v t }
-    ensures { result ≡ verdictOf (refuseAt ShortBuffer (firstShort have (leastOf nvp v t))) }
+    ensures { result ≡ verdictOf (refuse_at ShortBuffer (first_short have (leastOf nvp v t))) }
 {
     match first_short(have, least_lengths(nvp, v, t)) {
         Found::At(k) => Verdict::Refused(Refusal::ShortBuffer(k as u64)),

@@ -1,9 +1,9 @@
 // The sums over the contours' lengths: all vertices, V and T; and whether the lists of a job agree in count.
 ghost use Rattle.std.specs.Prelude.{◌≡◌, ℕ, ◌≤◌, length};
-ghost use Rattle.rules.specs.Job.{sumOver};
-ghost use Rattle.rules.specs.Checks.{countsAgree};
+ghost use Rattle.rules.specs.Job.{sum_over};
+ghost use Rattle.rules.specs.Checks.{counts_agree};
 ghost use Rattle.checks.specs.declared.counts.Part.TheVariants.{Points, Triangles};
-ghost use Rattle.checks.specs.Sums.{part_of, sumAll, sumV, sumT, Added, Total};
+ghost use Rattle.checks.specs.Sums.{part_of, sum_all, sum_v, sum_t, Added, Total};
 ghost use Rattle.checks.specs.Answers.{job_of};
 
 // How many numbers a vertex of a job has: x, y, z and its flag.
@@ -48,7 +48,7 @@ fn part_in(part: Part, n: u32) -> usize
 // The sum over all contours.
 fn sum_of(part: Part, lengths: &[u32]) -> usize
     requires { length lengths.now ≤ 65535 }
-    ensures { Total (sumOver (part_of part) lengths.now) result }
+    ensures { Total (sum_over (part_of part) lengths.now) result }
 {
     let mut sum = 0;
     let mut i = 0;
@@ -62,7 +62,7 @@ fn sum_of(part: Part, lengths: &[u32]) -> usize
 // How many vertices the lengths say there are, skipped contours counted.
 pub fn count_all(lengths: &[u32]) -> usize
     requires { length lengths.now ≤ 65535 }
-    ensures { Total (sumAll lengths.now) result }
+    ensures { Total (sum_all lengths.now) result }
 {
     sum_of(Part::All, lengths)
 }
@@ -70,7 +70,7 @@ pub fn count_all(lengths: &[u32]) -> usize
 // V: the vertices of contours of 3 or more.
 pub fn count_v(lengths: &[u32]) -> usize
     requires { length lengths.now ≤ 65535 }
-    ensures { result ≡ sumV lengths.now }
+    ensures { result ≡ sum_v lengths.now }
 {
     sum_of(Part::Points, lengths)
 }
@@ -78,7 +78,7 @@ pub fn count_v(lengths: &[u32]) -> usize
 // T: the triangles of the same.
 pub fn count_t(lengths: &[u32]) -> usize
     requires { length lengths.now ≤ 65535 }
-    ensures { result ≡ sumT lengths.now }
+    ensures { result ≡ sum_t lengths.now }
 {
     sum_of(Part::Triangles, lengths)
 }
@@ -86,7 +86,7 @@ pub fn count_t(lengths: &[u32]) -> usize
 // Whether there is a region and a code for each length, four numbers for each vertex, and not too many contours. These are
 // counted before anything is summed, so that no sum wraps.
 pub fn counts_agree(lengths: &[u32], regions: &[u16], codes: &[u8], numbers: &[u16]) -> bool
-    ensures { (nvp w h border : ℕ) → result ≡ countsAgree (job_of nvp w h border lengths.now regions.now codes.now numbers.now) }
+    ensures { (nvp w h border : ℕ) → result ≡ counts_agree (job_of nvp w h border lengths.now regions.now codes.now numbers.now) }
 {
     let n = lengths.len();
     if MOST_CONTOURS < n {

@@ -1,6 +1,6 @@
 // The least lengths of the lent buffers, and the first buffer that is shorter.
 ghost use Rattle.std.specs.Prelude.{◌≡◌, ◌+◌, ◌*◌, ◌≤◌};
-ghost use Rattle.rules.specs.Checks.{firstShort};
+ghost use Rattle.rules.specs.Checks.{first_short};
 ghost use Rattle.checks.specs.Answers.{Sized, leastOf};
 
 use rules::{Found, VERTEX_STRIDE};
@@ -27,7 +27,7 @@ pub fn least_lengths(nvp: u32, v: usize, t: usize) -> [usize; BUFFERS]
 
 // The first buffer whose length is below its least one.
 pub fn first_short(have: [usize; BUFFERS], least: [usize; BUFFERS]) -> Found
-    ensures { result ≡ firstShort have least }
+    ensures { result ≡ first_short have least }
 {
     let mut found = Found::Nothing;
     let mut k = 0;

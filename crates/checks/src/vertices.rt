@@ -1,7 +1,7 @@
 // The vertices of a job, in their order: the first that is off the grid, and the first whose flag is neither 0 nor 1.
 ghost use Rattle.std.specs.Prelude.{◌≡◌, ◌+◌, ◌*◌, ◌≤◌, ltb, length};
-ghost use Rattle.rules.specs.Job.{jobStride, vertexAt, flagAt};
-ghost use Rattle.rules.specs.Checks.{isHigh};
+ghost use Rattle.rules.specs.Job.{job_stride, vertex_at, flag_at};
+ghost use Rattle.rules.specs.Checks.{is_high};
 ghost use Rattle.checks.specs.Answers.{firstHighIn, firstBadFlagIn};
 
 use crate::counts::JOB_STRIDE;
@@ -9,8 +9,8 @@ use rules::Found;
 
 // Whether x or z of vertex k is above 32,767.
 fn is_high(numbers: &[u16], k: usize) -> bool
-    requires { k * jobStride + jobStride ≤ length numbers.now }
-    ensures { result ≡ isHigh (vertexAt numbers.now k) }
+    requires { k * job_stride + job_stride ≤ length numbers.now }
+    ensures { result ≡ is_high (vertex_at numbers.now k) }
 {
     let at = k * JOB_STRIDE;
     (32767 < numbers[at]) | (32767 < numbers[at + 2])
@@ -18,15 +18,15 @@ fn is_high(numbers: &[u16], k: usize) -> bool
 
 // Whether the flag of vertex k is above 1.
 fn is_bad_flag(numbers: &[u16], k: usize) -> bool
-    requires { k * jobStride + jobStride ≤ length numbers.now }
-    ensures { result ≡ ltb 1 (flagAt numbers.now k) }
+    requires { k * job_stride + job_stride ≤ length numbers.now }
+    ensures { result ≡ ltb 1 (flag_at numbers.now k) }
 {
     1 < numbers[k * JOB_STRIDE + 3]
 }
 
 // The first of the n vertices with x or z above 32,767.
 pub fn first_high(numbers: &[u16], n: usize) -> Found
-    requires { n * jobStride ≤ length numbers.now }
+    requires { n * job_stride ≤ length numbers.now }
     ensures { result ≡ firstHighIn numbers.now n }
 {
     let mut found = Found::Nothing;
@@ -43,7 +43,7 @@ pub fn first_high(numbers: &[u16], n: usize) -> Found
 
 // The first of the n vertices whose flag is neither 0 nor 1.
 pub fn first_bad_flag(numbers: &[u16], n: usize) -> Found
-    requires { n * jobStride ≤ length numbers.now }
+    requires { n * job_stride ≤ length numbers.now }
     ensures { result ≡ firstBadFlagIn numbers.now n }
 {
     let mut found = Found::Nothing;

@@ -7,40 +7,40 @@ use Prim.Native.Nat.{ℕ, suc, ◌+◌, ◌-◌, ◌*◌, ◌≤◌, ◌<◌}
 use native.Mathlib.Nat.{sub-zero}
 use native.Mathlib.Omega.{arith}
 use lib.ListN.{length, take, drop, get_or, set}
-use Rattle.mem.specs.Slice.{splice, length-splice, take-splice-end, stored-each, setEach}
+use Rattle.mem.specs.Slice.{splice, length_splice, take_splice_end, stored_each, set_each}
 use Rattle.rules.specs.Lines.{Line, lines_of, malformed}
-use Rattle.rules.specs.Checks.{vertexStride}
-use Rattle.rules.specs.Sheet.{vName, numberMost, line_at, need}
-use Rattle.rules.specs.CheckSheet.{placeNumbers, withPlace, readPlaces}
+use Rattle.rules.specs.Checks.{vertex_stride}
+use Rattle.rules.specs.Sheet.{v_name, number_most, line_at, need}
+use Rattle.rules.specs.CheckSheet.{place_numbers, with_place, read_places}
 use Rattle.rules.specs.Checker.{Claim}
 use Rattle.lines.specs.declared.line.LineRead.{LineRead}
-use Rattle.lines.specs.Read.{numbersAt}
+use Rattle.lines.specs.Read.{numbers_at}
 use Rattle.lines.specs.Taken.{Good}
 use Rattle.checksheet.specs.declared.progress.Progress.{Progress}
-use Rattle.checksheet.specs.Reading.{withMesh, restBy, stoppedAt, Within, PlaceReady, PlaceRead, PlacesReady, PlacesRead}
-use Rattle.sheet.specs.Needs.{need-bad, need-good}
-use Rattle.checksheet.proofs.Resting.{rest-good, rest-bad, rest-stopped, stopped-within}
+use Rattle.checksheet.specs.Reading.{with_mesh, rest_by, stopped_at, Within, PlaceReady, PlaceRead, PlacesReady, PlacesRead}
+use Rattle.sheet.specs.Needs.{need_bad, need_good}
+use Rattle.checksheet.proofs.Resting.{rest_good, rest_bad, rest_stopped, stopped_within}
 
 -- the limits of a vertex's numbers
-abbrev pub placeMosts : List ℕ
-placeMosts = numberMost ∷ numberMost ∷ numberMost ∷ []
+abbrev pub place_mosts : List ℕ
+place_mosts = number_most ∷ number_most ∷ number_most ∷ []
 
 abbrev pub PlaceGood : List ℕ → ℕ → LineRead → Type 0
-PlaceGood text at r = Good text at vName 0 placeMosts r
+PlaceGood text at r = Good text at v_name 0 place_mosts r
 
-pub place-most : {text : List ℕ} {at : ℕ} {r : LineRead} → PlaceGood text at r → (r.a ≤ numberMost) × (r.b ≤ numberMost) × (r.c ≤ numberMost)
-place-most g = (
+pub place_most : {text : List ℕ} {at : ℕ} {r : LineRead} → PlaceGood text at r → (r.a ≤ number_most) × (r.b ≤ number_most) × (r.c ≤ number_most)
+place_most g = (
   omega (arith, g.a, g.limits.most 0 (omega arith)),
   omega (arith, g.b, g.limits.most 1 (omega arith)),
   omega (arith, g.c, g.limits.most 2 (omega arith)),
 )
 
-three-of : (ns : List ℕ) → length ns ≡ 3 → get_or ns 0 0 ∷ get_or ns 1 0 ∷ get_or ns 2 0 ∷ [] ≡ ns
-three-of [] h = absurd (omega arith)
-three-of (a ∷ []) h = absurd (omega arith)
-three-of (a ∷ (b ∷ [])) h = absurd (omega arith)
-three-of (a ∷ (b ∷ (c ∷ []))) h = refl
-three-of (a ∷ (b ∷ (c ∷ (d ∷ ns)))) h = absurd (omega arith)
+three_of : (ns : List ℕ) → length ns ≡ 3 → get_or ns 0 0 ∷ get_or ns 1 0 ∷ get_or ns 2 0 ∷ [] ≡ ns
+three_of [] h = absurd (omega arith)
+three_of (a ∷ []) h = absurd (omega arith)
+three_of (a ∷ (b ∷ [])) h = absurd (omega arith)
+three_of (a ∷ (b ∷ (c ∷ []))) h = refl
+three_of (a ∷ (b ∷ (c ∷ (d ∷ ns)))) h = absurd (omega arith)
 
 -- ---- a line
 module _ {text : List ℕ} {p : Progress} {i : ℕ} {vs : List ℕ} (ready : PlaceReady text p i vs) where
@@ -48,40 +48,40 @@ module _ {text : List ℕ} {p : Progress} {i : ℕ} {vs : List ℕ} (ready : Pla
   here = lines_of (drop p.at text)
 
   at_place : (due n : ℕ) (c : Claim)
-      → readPlaces p.line (suc due) n here c
-      ≡ need p.line (numbersAt text p.at vName 0 placeMosts) (λ ns. readPlaces (p.line + 1) due n (drop 1 here) (withPlace ns c))
-  unfolding readPlaces placeNumbers line_at numbersAt
+      → read_places p.line (suc due) n here c
+      ≡ need p.line (numbers_at text p.at v_name 0 place_mosts) (λ ns. read_places (p.line + 1) due n (drop 1 here) (with_place ns c))
+  unfolding read_places place_numbers line_at numbers_at
   at_place due n c = refl
 
-  pub place-bad : numbersAt text p.at vName 0 placeMosts ≡ malformed → {q : Progress} → q ≡ stoppedAt p → PlaceRead text p q i vs vs
-  place-bad e x = subst (λ (q : Progress). PlaceRead text p q i vs vs) (sym x) (record {
-    within = stopped-within text p ready.within;
+  pub place_bad : numbers_at text p.at v_name 0 place_mosts ≡ malformed → {q : Progress} → q ≡ stopped_at p → PlaceRead text p q i vs vs
+  place_bad e x = subst (λ (q : Progress). PlaceRead text p q i vs vs) (sym x) (record {
+    within = stopped_within text p ready.within;
     long = refl;
-    same = λ due n c. at_place due n _ ∙ need-bad p.line _ e ∙ rest-stopped text p _;
+    same = λ due n c. at_place due n _ ∙ need_bad p.line _ e ∙ rest_stopped text p _;
   })
 
   module _ {r : LineRead} (g : PlaceGood text p.at r) where
-    put : set (set (set vs (i * vertexStride) r.a) (i * vertexStride + 1) r.b) (i * vertexStride + 2) r.c ≡ splice vs (i * vertexStride) g.ns
-    unfolding setEach
+    put : set (set (set vs (i * vertex_stride) r.a) (i * vertex_stride + 1) r.b) (i * vertex_stride + 2) r.c ≡ splice vs (i * vertex_stride) g.ns
+    unfolding set_each
     put =
-        let k = i * vertexStride in
-        stored-each vs k r.a (r.b ∷ r.c ∷ []) ∙ ap (splice vs k) (rw (g.a, g.b, g.c) (three-of g.ns g.limits.long))
+        let k = i * vertex_stride in
+        stored_each vs k r.a (r.b ∷ r.c ∷ []) ∙ ap (splice vs k) (rw (g.a, g.b, g.c) (three_of g.ns g.limits.long))
 
-    put-place : PlaceRead text p (record { good = true; line = p.line + 1; at = r.next }) i vs (splice vs (i * vertexStride) g.ns)
-    unfolding restBy withPlace withMesh
-    put-place =
+    put_place : PlaceRead text p (record { good = true; line = p.line + 1; at = r.next }) i vs (splice vs (i * vertex_stride) g.ns)
+    unfolding rest_by with_place with_mesh
+    put_place =
         let w = ready.within in
-        let k = i * vertexStride in
-        let more = take-splice-end vs k ((i + 1) * vertexStride) g.ns (omega (arith, g.limits.long)) (omega (arith, ready.room)) in
+        let k = i * vertex_stride in
+        let more = take_splice_end vs k ((i + 1) * vertex_stride) g.ns (omega (arith, g.limits.long)) (omega (arith, ready.room)) in
         record {
           within = record { inside = g.within; short = w.short; small = omega (arith, w.small, g.further) };
-          long = length-splice vs k g.ns;
-          same = λ due n c. at_place due n _ ∙ need-good p.line _ g.says ∙ rw (g.rest, more) refl;
+          long = length_splice vs k g.ns;
+          same = λ due n c. at_place due n _ ∙ need_good p.line _ g.says ∙ rw (g.rest, more) refl;
         }
 
-    pub place-put : PlaceRead text p (record { good = true; line = p.line + 1; at = r.next }) i vs
-        (set (set (set vs (i * vertexStride) r.a) (i * vertexStride + 1) r.b) (i * vertexStride + 2) r.c)
-    place-put = subst (PlaceRead text p (record { good = true; line = p.line + 1; at = r.next }) i vs) (sym put) put-place
+    pub place_put : PlaceRead text p (record { good = true; line = p.line + 1; at = r.next }) i vs
+        (set (set (set vs (i * vertex_stride) r.a) (i * vertex_stride + 1) r.b) (i * vertex_stride + 2) r.c)
+    place_put = subst (PlaceRead text p (record { good = true; line = p.line + 1; at = r.next }) i vs) (sym put) put_place
 
 -- ---- the loop: i vertices are read, and what is left from p on comes to what the whole comes to
 pub record Placing (text : List ℕ) (from k : ℕ) (p : Progress) (i : ℕ) (v vs : List ℕ) : Type 0 where
@@ -89,13 +89,13 @@ pub record Placing (text : List ℕ) (from k : ℕ) (p : Progress) (i : ℕ) (v 
   pub going : p.good ≡ true
   pub count : i ≤ k
   pub long : length vs ≡ length v
-  pub room : k * vertexStride ≤ length vs
-  pub same : (n : ℕ) (c : Claim) → readPlaces 6 k n (lines_of (drop from text)) (withMesh c [] [] [])
-      ≡ readPlaces p.line (k - i) n (lines_of (drop p.at text)) (withMesh c (take (i * vertexStride) vs) [] [])
+  pub room : k * vertex_stride ≤ length vs
+  pub same : (n : ℕ) (c : Claim) → read_places 6 k n (lines_of (drop from text)) (with_mesh c [] [] [])
+      ≡ read_places p.line (k - i) n (lines_of (drop p.at text)) (with_mesh c (take (i * vertex_stride) vs) [] [])
 
-pub placing-begin : {text : List ℕ} {from k : ℕ} {vs : List ℕ} → PlacesReady text from k vs
+pub placing_begin : {text : List ℕ} {from k : ℕ} {vs : List ℕ} → PlacesReady text from k vs
     → Placing text from k (record { good = true; line = 6; at = from }) 0 vs vs
-placing-begin {text} {from} {k} r = record {
+placing_begin {text} {from} {k} r = record {
   within = record { inside = r.inside; short = r.short; small = omega arith };
   going = refl;
   count = omega arith;
@@ -105,41 +105,41 @@ placing-begin {text} {from} {k} r = record {
 }
 
 module _ {text : List ℕ} {from k : ℕ} {p : Progress} {i : ℕ} {v vs : List ℕ} (s : Placing text from k p i v vs) where
-  pub placing-ready : i < k → PlaceReady text p i vs
-  placing-ready h = record { within = s.within; room = omega (arith, s.room) }
+  pub placing_ready : i < k → PlaceReady text p i vs
+  placing_ready h = record { within = s.within; room = omega (arith, s.room) }
 
   module _ (h : i < k) {q : Progress} {vs' : List ℕ} (r : PlaceRead text p q i vs vs') where
-    turn : (n : ℕ) (c : Claim) → readPlaces 6 k n (lines_of (drop from text)) (withMesh c [] [] [])
-        ≡ restBy text q (λ line ls. readPlaces line (k - (i + 1)) n ls (withMesh c (take ((i + 1) * vertexStride) vs') [] []))
+    turn : (n : ℕ) (c : Claim) → read_places 6 k n (lines_of (drop from text)) (with_mesh c [] [] [])
+        ≡ rest_by text q (λ line ls. read_places line (k - (i + 1)) n ls (with_mesh c (take ((i + 1) * vertex_stride) vs') [] []))
     turn n c =
         let e : k - i ≡ suc (k - (i + 1)) = omega arith in
         s.same n c
-        ∙ ap (λ (d : ℕ). readPlaces p.line d n (lines_of (drop p.at text)) (withMesh c (take (i * vertexStride) vs) [] [])) e
+        ∙ ap (λ (d : ℕ). read_places p.line d n (lines_of (drop p.at text)) (with_mesh c (take (i * vertex_stride) vs) [] [])) e
         ∙ r.same (k - (i + 1)) n c
 
-    pub placing-next : q.good ≡ true → Placing text from k q (i + 1) v vs'
-    placing-next g =
+    pub placing_next : q.good ≡ true → Placing text from k q (i + 1) v vs'
+    placing_next g =
         record {
           within = r.within;
           going = g;
           count = omega arith;
           long = r.long ∙ s.long;
           room = omega (arith, s.room, r.long);
-          same = λ n c. turn n c ∙ rest-good text q _ g;
+          same = λ n c. turn n c ∙ rest_good text q _ g;
         }
 
-    pub placing-stop : q.good ≡ false → PlacesRead text from k q vs'
-    placing-stop g = record { within = r.within; same = λ n c. turn n c ∙ rest-bad text q _ g ∙ sym (rest-bad text q _ g) }
+    pub placing_stop : q.good ≡ false → PlacesRead text from k q vs'
+    placing_stop g = record { within = r.within; same = λ n c. turn n c ∙ rest_bad text q _ g ∙ sym (rest_bad text q _ g) }
 
-  pub placing-end : k ≤ i → PlacesRead text from k p vs
-  unfolding readPlaces
-  placing-end h =
+  pub placing_end : k ≤ i → PlacesRead text from k p vs
+  unfolding read_places
+  placing_end h =
       let e : i ≡ k = omega (arith, s.count) in
       let z : k - i ≡ 0 = omega arith in
       record {
         within = s.within;
         same = λ n c.
             s.same n c
-            ∙ ap (λ (d : ℕ). readPlaces p.line d n (lines_of (drop p.at text)) (withMesh c (take (i * vertexStride) vs) [] [])) z
-            ∙ rw e (sym (rest-good text p _ s.going));
+            ∙ ap (λ (d : ℕ). read_places p.line d n (lines_of (drop p.at text)) (with_mesh c (take (i * vertex_stride) vs) [] [])) z
+            ∙ rw e (sym (rest_good text p _ s.going));
       }

@@ -8,33 +8,33 @@ use native.Mathlib.Nat.{sub-zero}
 use native.Mathlib.Omega.{arith}
 use lib.ListN.{length, take, drop}
 use borrow.Author.Tests.{le-leb}
-use Rattle.mem.specs.Slice.{view, splice, length-splice}
-use Rattle.mem.specs.Loops.{block-fits}
-use Rattle.rules.specs.Lines.{tabByte, lf, parts, Line, lines_of, malformed, numbersOf}
+use Rattle.mem.specs.Slice.{view, splice, length_splice}
+use Rattle.mem.specs.Loops.{block_fits}
+use Rattle.rules.specs.Lines.{tab_byte, lf, parts, Line, lines_of, malformed, numbers_of}
 use Rattle.rules.specs.Sheet.{line_at, need}
 use Rattle.rules.specs.Exits.{padded}
-use Rattle.rules.specs.CheckSheet.{rowWords, cornerNumbers, linkNumbers, withPolygon, readPolygons}
+use Rattle.rules.specs.CheckSheet.{row_words, corner_numbers, link_numbers, with_polygon, read_polygons}
 use Rattle.rules.specs.Checker.{Claim}
 use Rattle.lines.specs.Scan.{place_of}
 use Rattle.checksheet.specs.declared.progress.Progress.{Progress}
-use Rattle.checksheet.specs.Reading.{withMesh, restBy, stoppedAt, Within, CornersAre, RowAtReady, LinksRead}
+use Rattle.checksheet.specs.Reading.{with_mesh, rest_by, stopped_at, Within, CornersAre, RowAtReady, LinksRead}
 use Rattle.checksheet.specs.Reading.{PolygonReady, PolygonRead, PolygonsReady, PolygonsRead}
-use Rattle.sheet.specs.Needs.{need-bad, need-good}
-use Rattle.checksheet.proofs.Resting.{rest-good, rest-bad, rest-cong, rest-stopped, stopped-within}
-use Rattle.checksheet.proofs.Resting.{line-here, line-none, next-within}
-use Rattle.checksheet.proofs.RowLines.{corner-words, corner-count, row_more}
+use Rattle.sheet.specs.Needs.{need_bad, need_good}
+use Rattle.checksheet.proofs.Resting.{rest_good, rest_bad, rest_cong, rest_stopped, stopped_within}
+use Rattle.checksheet.proofs.Resting.{line_here, line_none, next_within}
+use Rattle.checksheet.proofs.RowLines.{corner_words_lem, corner_count, row_more}
 
 -- ---- a polygon
 
 -- no cells are no `p` line
-no-corners : (most : ℕ) → cornerNumbers most [] ≡ malformed
-unfolding cornerNumbers numbersOf
-no-corners most = rw (le-leb 0 (3 + most) (omega arith), cornerNumbers) refl
+no_corners : (most : ℕ) → corner_numbers most [] ≡ malformed
+unfolding corner_numbers numbers_of
+no_corners most = rw (le-leb 0 (3 + most) (omega arith), corner_numbers) refl
 
 -- a polygon behind others
-with_row : (c : Claim) (vs ps ls cs ms : List ℕ) {words : ℕ} → rowWords c.mesh.nvp ≡ words
-    → withPolygon cs ms (withMesh c vs ps ls) ≡ withMesh c vs (ps ++ padded words cs) (ls ++ padded words ms)
-unfolding withPolygon withMesh
+with_row : (c : Claim) (vs ps ls cs ms : List ℕ) {words : ℕ} → row_words c.mesh.nvp ≡ words
+    → with_polygon cs ms (with_mesh c vs ps ls) ≡ with_mesh c vs (ps ++ padded words cs) (ls ++ padded words ms)
+unfolding with_polygon with_mesh
 with_row c vs ps ls cs ms e = rw e refl
 
 module _ {text : List ℕ} {p : Progress} {words i : ℕ} {ps ls : List ℕ} (ready : PolygonReady text p words i ps ls) where
@@ -42,81 +42,81 @@ module _ {text : List ℕ} {p : Progress} {words i : ℕ} {ps ls : List ℕ} (re
   here = lines_of (drop p.at text)
 
   -- what the lines come to
-  at-polygon : (due : ℕ) (c : Claim) (vs xs ys : List ℕ) → rowWords c.mesh.nvp ≡ words
-      → readPolygons p.line (suc due) here (withMesh c vs xs ys)
-      ≡ need p.line (cornerNumbers words (line_at here 0)) (λ ns. need (p.line + 1) (linkNumbers (length ns - 2) (line_at here 1))
-      (λ ms. readPolygons (p.line + 2) due (drop 2 here) (withPolygon (drop 2 ns) ms (withMesh c vs xs ys))))
-  unfolding readPolygons withMesh
-  at-polygon due c vs xs ys e = rw e refl
+  at_polygon : (due : ℕ) (c : Claim) (vs xs ys : List ℕ) → row_words c.mesh.nvp ≡ words
+      → read_polygons p.line (suc due) here (with_mesh c vs xs ys)
+      ≡ need p.line (corner_numbers words (line_at here 0)) (λ ns. need (p.line + 1) (link_numbers (length ns - 2) (line_at here 1))
+      (λ ms. read_polygons (p.line + 2) due (drop 2 here) (with_polygon (drop 2 ns) ms (with_mesh c vs xs ys))))
+  unfolding read_polygons with_mesh
+  at_polygon due c vs xs ys e = rw e refl
 
   -- the `p` line is bad
-  pub polygon-bad : cornerNumbers words (line_at here 0) ≡ malformed → {q : Progress} → q ≡ stoppedAt p → PolygonRead text p q words i ps ls ps ls
-  polygon-bad e x = subst (λ (q : Progress). PolygonRead text p q words i ps ls ps ls) (sym x) (record {
-    within = stopped-within text p ready.within;
+  pub polygon_bad : corner_numbers words (line_at here 0) ≡ malformed → {q : Progress} → q ≡ stopped_at p → PolygonRead text p q words i ps ls ps ls
+  polygon_bad e x = subst (λ (q : Progress). PolygonRead text p q words i ps ls ps ls) (sym x) (record {
+    within = stopped_within text p ready.within;
     polygons = refl;
     links = refl;
-    same = λ due c vs z. at-polygon due c vs _ _ z ∙ need-bad p.line _ e ∙ rest-stopped text p _;
+    same = λ due c vs z. at_polygon due c vs _ _ z ∙ need_bad p.line _ e ∙ rest_stopped text p _;
   })
 
   module _ {e : ℕ} (q : e ≡ p.at + place_of lf (drop p.at text)) where
     -- there is none
-    pub polygon-open : length text ≤ e → {s : Progress} → s ≡ stoppedAt p → PolygonRead text p s words i ps ls ps ls
-    polygon-open h = polygon-bad (ap (cornerNumbers words) (line-none text p.at q h) ∙ no-corners words)
+    pub polygon_open : length text ≤ e → {s : Progress} → s ≡ stopped_at p → PolygonRead text p s words i ps ls ps ls
+    polygon_open h = polygon_bad (ap (corner_numbers words) (line_none text p.at q h) ∙ no_corners words)
 
     module _ (h : e < length text) where
-      first : line_at here 0 ≡ parts tabByte (view text p.at (e - p.at))
+      first : line_at here 0 ≡ parts tab_byte (view text p.at (e - p.at))
       unfolding line_at
-      first = rw (line-here text p.at q h) refl
+      first = rw (line_here text p.at q h) refl
 
-      pub polygon-missed : cornerNumbers words (parts tabByte (view text p.at (e - p.at))) ≡ malformed → {s : Progress} → s ≡ stoppedAt p
+      pub polygon_missed : corner_numbers words (parts tab_byte (view text p.at (e - p.at))) ≡ malformed → {s : Progress} → s ≡ stopped_at p
           → PolygonRead text p s words i ps ls ps ls
-      polygon-missed z = polygon-bad (ap (cornerNumbers words) first ∙ z)
+      polygon_missed z = polygon_bad (ap (corner_numbers words) first ∙ z)
 
       -- the place behind it
       abbrev pub behind : Progress
       behind = record { good = true; line = p.line + 1; at = e + 1 }
 
-      pub links-asked : {n : ℕ} → n ≤ words → RowAtReady text behind words i n ls
-      links-asked z =
+      pub links_asked : {n : ℕ} → n ≤ words → RowAtReady text behind words i n ls
+      links_asked z =
           let t = ready.within in
-          record { within = next-within text p.at q t.inside t.short t.small h; few = ready.few; corners = z; room = ready.links }
+          record { within = next_within text p.at q t.inside t.short t.small h; few = ready.few; corners = z; room = ready.links }
 
       -- the `n` line is next
       second : line_at here 1 ≡ line_at (lines_of (drop (e + 1) text)) 0
       unfolding line_at
-      second = rw (line-here text p.at q h) refl
+      second = rw (line_here text p.at q h) refl
 
       later : drop 2 here ≡ drop 1 (lines_of (drop (e + 1) text))
-      later = rw (line-here text p.at q h) refl
+      later = rw (line_here text p.at q h) refl
 
-      module _ {n : ℕ} {v w : List ℕ} (a : CornersAre words (parts tabByte (view text p.at (e - p.at))) n v w) (room : length v ≡ 14)
+      module _ {n : ℕ} {v w : List ℕ} (a : CornersAre words (parts tab_byte (view text p.at (e - p.at))) n v w) (room : length v ≡ 14)
           {ps' ls' : List ℕ} (m : ℕ) (k : m ≡ n) (put : ps' ≡ splice ps (i * words) (padded words (view w 2 m)))
           {s : Progress} (links : LinksRead text behind s words i n ls ls') where
         stored : ps' ≡ splice ps (i * words) (padded words (drop 2 a.ns))
-        stored = put ∙ ap (λ (l : List ℕ). splice ps (i * words) (padded words l)) (corner-words a room ready.few k)
+        stored = put ∙ ap (λ (l : List ℕ). splice ps (i * words) (padded words l)) (corner_words_lem a room ready.few k)
 
         more : take ((i + 1) * words) ps' ≡ take (i * words) ps ++ padded words (drop 2 a.ns)
-        more = ap (take ((i + 1) * words)) stored ∙ row_more ps (drop 2 a.ns) i words (omega (arith, corner-count a room ready.few, a.few)) ready.room
+        more = ap (take ((i + 1) * words)) stored ∙ row_more ps (drop 2 a.ns) i words (omega (arith, corner_count a room ready.few, a.few)) ready.room
 
         -- both lines, with the links that were read
-        both : (due : ℕ) (c : Claim) (vs xs ys : List ℕ) → rowWords c.mesh.nvp ≡ words
-            → readPolygons p.line (suc due) here (withMesh c vs xs ys)
-            ≡ restBy text s (λ line lines. readPolygons line due lines (withPolygon (drop 2 a.ns) links.ms (withMesh c vs xs ys)))
+        both : (due : ℕ) (c : Claim) (vs xs ys : List ℕ) → row_words c.mesh.nvp ≡ words
+            → read_polygons p.line (suc due) here (with_mesh c vs xs ys)
+            ≡ rest_by text s (λ line lines. read_polygons line due lines (with_polygon (drop 2 a.ns) links.ms (with_mesh c vs xs ys)))
         both due c vs xs ys z =
             let two : length a.ns - 2 ≡ n = omega (arith, a.long) in
             let on : p.line + 2 ≡ p.line + 1 + 1 = omega arith in
-            at-polygon due c vs xs ys z
-            ∙ need-good p.line _ (ap (cornerNumbers words) first ∙ a.says)
-            ∙ rw (two, second, later, on) (links.same (λ line lines ms. readPolygons line due lines (withPolygon (drop 2 a.ns) ms (withMesh c vs xs ys))))
+            at_polygon due c vs xs ys z
+            ∙ need_good p.line _ (ap (corner_numbers words) first ∙ a.says)
+            ∙ rw (two, second, later, on) (links.same (λ line lines ms. read_polygons line due lines (with_polygon (drop 2 a.ns) ms (with_mesh c vs xs ys))))
 
-        pub polygon-put : PolygonRead text p s words i ps ls ps' ls'
-        polygon-put = record {
+        pub polygon_put : PolygonRead text p s words i ps ls ps' ls'
+        polygon_put = record {
           within = links.within;
-          polygons = ap length stored ∙ length-splice ps (i * words) (padded words (drop 2 a.ns));
+          polygons = ap length stored ∙ length_splice ps (i * words) (padded words (drop 2 a.ns));
           links = links.long;
           same = λ due c vs z.
               both due c vs (take (i * words) ps) (take (i * words) ls) z
-              ∙ rest-cong text s _ _ (λ g line lines. ap (readPolygons line due lines)
+              ∙ rest_cong text s _ _ (λ g line lines. ap (read_polygons line due lines)
               (with_row c vs (take (i * words) ps) (take (i * words) ls) (drop 2 a.ns) links.ms z ∙ rw (more, links.more g) refl));
         }
 
@@ -130,12 +130,12 @@ pub record Going (text : List ℕ) (f : Progress) (words n : ℕ) (p : Progress)
   pub links : length ls ≡ length w
   pub room : n * words ≤ length ps
   pub space : n * words ≤ length ls
-  pub same : (c : Claim) (vs : List ℕ) → rowWords c.mesh.nvp ≡ words
-      → readPolygons f.line n (lines_of (drop f.at text)) (withMesh c vs [] [])
-      ≡ readPolygons p.line (n - i) (lines_of (drop p.at text)) (withMesh c vs (take (i * words) ps) (take (i * words) ls))
+  pub same : (c : Claim) (vs : List ℕ) → row_words c.mesh.nvp ≡ words
+      → read_polygons f.line n (lines_of (drop f.at text)) (with_mesh c vs [] [])
+      ≡ read_polygons p.line (n - i) (lines_of (drop p.at text)) (with_mesh c vs (take (i * words) ps) (take (i * words) ls))
 
-pub going-begin : {text : List ℕ} {f : Progress} {words n : ℕ} {ps ls : List ℕ} → PolygonsReady text f words n ps ls → Going text f words n f 0 ps ls ps ls
-going-begin {text} {f} {words} {n} r =
+pub going_begin : {text : List ℕ} {f : Progress} {words n : ℕ} {ps ls : List ℕ} → PolygonsReady text f words n ps ls → Going text f words n f 0 ps ls ps ls
+going_begin {text} {f} {words} {n} r =
     let e : 0 * words ≡ 0 = omega arith in
     record {
       within = r.within;
@@ -150,23 +150,23 @@ going-begin {text} {f} {words} {n} r =
     }
 
 module _ {text : List ℕ} {f : Progress} {words n : ℕ} {p : Progress} {i : ℕ} {v w ps ls : List ℕ} (s : Going text f words n p i v w ps ls) where
-  pub going-ready : i < n → PolygonReady text p words i ps ls
-  going-ready h =
+  pub going_ready : i < n → PolygonReady text p words i ps ls
+  going_ready h =
       record {
         within = s.within;
         few = s.few;
-        room = block-fits i n words (length ps) h s.room;
-        links = block-fits i n words (length ls) h s.space;
+        room = block_fits i n words (length ps) h s.room;
+        links = block_fits i n words (length ls) h s.space;
       }
 
   module _ (h : i < n) {q : Progress} {ps' ls' : List ℕ} (r : PolygonRead text p q words i ps ls ps' ls') where
-    turn : (c : Claim) (vs : List ℕ) → rowWords c.mesh.nvp ≡ words
-        → readPolygons f.line n (lines_of (drop f.at text)) (withMesh c vs [] [])
-        ≡ restBy text q (λ k lines. readPolygons k (n - (i + 1)) lines (withMesh c vs (take ((i + 1) * words) ps') (take ((i + 1) * words) ls')))
+    turn : (c : Claim) (vs : List ℕ) → row_words c.mesh.nvp ≡ words
+        → read_polygons f.line n (lines_of (drop f.at text)) (with_mesh c vs [] [])
+        ≡ rest_by text q (λ k lines. read_polygons k (n - (i + 1)) lines (with_mesh c vs (take ((i + 1) * words) ps') (take ((i + 1) * words) ls')))
     turn c vs z =
         let e : n - i ≡ suc (n - (i + 1)) = omega arith in
         s.same c vs z
-        ∙ ap (λ (d : ℕ). readPolygons p.line d (lines_of (drop p.at text)) (withMesh c vs (take (i * words) ps) (take (i * words) ls))) e
+        ∙ ap (λ (d : ℕ). read_polygons p.line d (lines_of (drop p.at text)) (with_mesh c vs (take (i * words) ps) (take (i * words) ls))) e
         ∙ r.same (n - (i + 1)) c vs z
 
     pub going_next : q.good ≡ true → Going text f words n q (i + 1) v w ps' ls'
@@ -180,11 +180,11 @@ module _ {text : List ℕ} {f : Progress} {words n : ℕ} {p : Progress} {i : �
           links = r.links ∙ s.links;
           room = rw r.polygons s.room;
           space = rw r.links s.space;
-          same = λ c vs z. turn c vs z ∙ rest-good text q _ g;
+          same = λ c vs z. turn c vs z ∙ rest_good text q _ g;
         }
 
-    pub going-stop : q.good ≡ false → PolygonsRead text f q words n ps' ls'
-    going-stop g = record { within = r.within; same = λ c vs z. turn c vs z ∙ rest-bad text q _ g ∙ sym (rest-bad text q _ g) }
+    pub going_stop : q.good ≡ false → PolygonsRead text f q words n ps' ls'
+    going_stop g = record { within = r.within; same = λ c vs z. turn c vs z ∙ rest_bad text q _ g ∙ sym (rest_bad text q _ g) }
 
   pub going_end : n ≤ i → PolygonsRead text f p words n ps ls
   going_end h =
@@ -194,6 +194,6 @@ module _ {text : List ℕ} {f : Progress} {words n : ℕ} {p : Progress} {i : �
         within = s.within;
         same = λ c vs x.
             s.same c vs x
-            ∙ ap (λ (d : ℕ). readPolygons p.line d (lines_of (drop p.at text)) (withMesh c vs (take (i * words) ps) (take (i * words) ls))) z
-            ∙ rw e (sym (rest-good text p _ s.going));
+            ∙ ap (λ (d : ℕ). read_polygons p.line d (lines_of (drop p.at text)) (with_mesh c vs (take (i * words) ps) (take (i * words) ls))) z
+            ∙ rw e (sym (rest_good text p _ s.going));
       }

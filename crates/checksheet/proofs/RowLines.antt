@@ -8,103 +8,103 @@ use native.Mathlib.Omega.{arith}
 use lib.ListN.{length, take, drop, get_or, replicate, length-drop, length-replicate, get_or-replicate}
 use lib.Seq.{get_or-drop}
 use borrow.Author.Tests.{le-leb, lt-leb}
-use Rattle.mem.specs.Slice.{view, splice, length-splice, take-splice-end, drop-take}
-use Rattle.mem.specs.Zeros.{take-replicate}
-use Rattle.rules.specs.Lines.{tabByte, lf, parts, Line, lines_of, numbers, malformed, numbersOf}
-use Rattle.rules.specs.Sheet.{pName, nName, numberMost, codeMost, line_at}
+use Rattle.mem.specs.Slice.{view, splice, length_splice, take_splice_end, drop_take}
+use Rattle.mem.specs.Zeros.{take_replicate}
+use Rattle.rules.specs.Lines.{tab_byte, lf, parts, Line, lines_of, numbers, malformed, numbers_of}
+use Rattle.rules.specs.Sheet.{p_name, n_name, number_most, code_most, line_at}
 use Rattle.rules.specs.Exits.{padded}
-use Rattle.rules.specs.CheckSheet.{linkMost, cornerNumbers, linkNumbers}
-use Rattle.laws.specs.Exits.{length-padded}
+use Rattle.rules.specs.CheckSheet.{link_most, corner_numbers, link_numbers}
+use Rattle.laws.specs.Exits.{length_padded}
 use Rattle.lines.specs.Scan.{place_of}
 use Rattle.lines.specs.Read.{RowRead}
-use Rattle.lines.specs.Taken.{row-good, row-bad}
+use Rattle.lines.specs.Taken.{row_good, row_bad}
 use Rattle.checksheet.specs.declared.progress.Progress.{Progress}
-use Rattle.checksheet.specs.Reading.{restBy, stoppedAt, RowReady, CornersAre, CornersRead, RowAtReady, LinksRead}
-use Rattle.sheet.specs.Needs.{need-bad, need-good}
-use Rattle.checksheet.proofs.Resting.{rest-stopped, stopped-within, line-here, line-none, next-within}
+use Rattle.checksheet.specs.Reading.{rest_by, stopped_at, RowReady, CornersAre, CornersRead, RowAtReady, LinksRead}
+use Rattle.sheet.specs.Needs.{need_bad, need_good}
+use Rattle.checksheet.proofs.Resting.{rest_stopped, stopped_within, line_here, line_none, next_within}
 
 -- the numbers at the beginning of the words
-first-words : (v ns : List ℕ) (n : ℕ) {w : List ℕ} → w ≡ splice v 0 ns → length ns ≡ n → n ≤ length v → take n w ≡ ns
-first-words v ns n e h k = ap (take n) e ∙ take-splice-end v 0 n ns (omega arith) k
+first_words : (v ns : List ℕ) (n : ℕ) {w : List ℕ} → w ≡ splice v 0 ns → length ns ≡ n → n ≤ length v → take n w ≡ ns
+first_words v ns n e h k = ap (take n) e ∙ take_splice_end v 0 n ns (omega arith) k
 
 -- ---- a `p` line
 
 -- the limits of region, area code and 12 corners, of which the first ones are used
-abbrev pub cornerMosts : List ℕ
-cornerMosts = numberMost ∷ codeMost ∷ replicate 12 numberMost
+abbrev pub corner_mosts : List ℕ
+corner_mosts = number_most ∷ code_most ∷ replicate 12 number_most
 
-corner-mosts : (k : ℕ) → k ≤ 12 → take (k + 2) cornerMosts ≡ numberMost ∷ codeMost ∷ replicate k numberMost
-corner-mosts k h =
+corner_mosts_lem : (k : ℕ) → k ≤ 12 → take (k + 2) corner_mosts ≡ number_most ∷ code_most ∷ replicate k number_most
+corner_mosts_lem k h =
     let e : k + 2 ≡ suc (suc k) = omega arith in
-    rw e (ap (λ (l : List ℕ). numberMost ∷ codeMost ∷ l) (take-replicate k 12 numberMost h))
+    rw e (ap (λ (l : List ℕ). number_most ∷ code_most ∷ l) (take_replicate k 12 number_most h))
 
-pub corner-limits : (k : ℕ) → k ≤ 12 → length (take (k + 2) cornerMosts) ≡ k + 2
-corner-limits k h = ap length (corner-mosts k h) ∙ simp length-replicate (omega arith)
+pub corner_limits : (k : ℕ) → k ≤ 12 → length (take (k + 2) corner_mosts) ≡ k + 2
+corner_limits k h = ap length (corner_mosts_lem k h) ∙ simp length-replicate (omega arith)
 
-limit-at : (k i : ℕ) → i < k → get_or (numberMost ∷ codeMost ∷ replicate k numberMost) (i + 2) 0 ≡ numberMost
-limit-at k i h = let e : i + 2 ≡ suc (suc i) = omega arith in rw e (get_or-replicate k i numberMost 0 h)
+limit_at : (k i : ℕ) → i < k → get_or (number_most ∷ code_most ∷ replicate k number_most) (i + 2) 0 ≡ number_most
+limit_at k i h = let e : i + 2 ≡ suc (suc i) = omega arith in rw e (get_or-replicate k i number_most 0 h)
 
 module _ (most : ℕ) (l : Line) where
-  within-most : length l ≤ 3 + most → cornerNumbers most l ≡ numbersOf pName 0 (numberMost ∷ codeMost ∷ replicate (length l - 3) numberMost) l
-  unfolding cornerNumbers
-  within-most h = rw (le-leb (length l) (3 + most) h, cornerNumbers) refl
+  within_most : length l ≤ 3 + most → corner_numbers most l ≡ numbers_of p_name 0 (number_most ∷ code_most ∷ replicate (length l - 3) number_most) l
+  unfolding corner_numbers
+  within_most h = rw (le-leb (length l) (3 + most) h, corner_numbers) refl
 
-  above_most : 3 + most < length l → cornerNumbers most l ≡ malformed
-  unfolding cornerNumbers
-  above_most h = rw (lt-leb (length l) (3 + most) h, cornerNumbers) refl
+  above_most : 3 + most < length l → corner_numbers most l ≡ malformed
+  unfolding corner_numbers
+  above_most h = rw (lt-leb (length l) (3 + most) h, corner_numbers) refl
 
   -- there are too many cells
-  pub corners-over : (v w : List ℕ) → 3 + most < length l → CornersRead most l (record { good = false; count = 0 }) v w
-  corners-over v w h = record { found = λ e. absurd (true≢false (sym e)); none = λ e. above_most h }
+  pub corners_over : (v w : List ℕ) → 3 + most < length l → CornersRead most l (record { good = false; count = 0 }) v w
+  corners_over v w h = record { found = λ e. absurd (true≢false (sym e)); none = λ e. above_most h }
 
   module _ {k : ℕ} (e : k ≡ length l - 3) (h : length l ≤ 3 + most) (few : most ≤ 12) {r : Bool} {v w : List ℕ}
-      (x : RowRead pName 0 (take (k + 2) cornerMosts) l r v w) where
-    row : RowRead pName 0 (numberMost ∷ codeMost ∷ replicate k numberMost) l r v w
-    row = subst (λ (ms : List ℕ). RowRead pName 0 ms l r v w) (corner-mosts k (omega arith)) x
+      (x : RowRead p_name 0 (take (k + 2) corner_mosts) l r v w) where
+    row : RowRead p_name 0 (number_most ∷ code_most ∷ replicate k number_most) l r v w
+    row = subst (λ (ms : List ℕ). RowRead p_name 0 ms l r v w) (corner_mosts_lem k (omega arith)) x
 
-    is : cornerNumbers most l ≡ numbersOf pName 0 (numberMost ∷ codeMost ∷ replicate k numberMost) l
-    is = rw e (within-most h)
+    is : corner_numbers most l ≡ numbers_of p_name 0 (number_most ∷ code_most ∷ replicate k number_most) l
+    is = rw e (within_most h)
 
-    pub corners-none : r ≡ false → CornersRead most l (record { good = false; count = 0 }) v w
-    corners-none q = record { found = λ z. absurd (true≢false (sym z)); none = λ z. is ∙ row-bad row q }
+    pub corners_none : r ≡ false → CornersRead most l (record { good = false; count = 0 }) v w
+    corners_none q = record { found = λ z. absurd (true≢false (sym z)); none = λ z. is ∙ row_bad row q }
 
-    pub corners-found : r ≡ true → CornersRead most l (record { good = true; count = k }) v w
-    corners-found q =
-        let g = row-good row q in
+    pub corners_found : r ≡ true → CornersRead most l (record { good = true; count = k }) v w
+    corners_found q =
+        let g = row_good row q in
         let a : CornersAre most l k v w = record {
           ns = g.ns;
           says = is ∙ g.says;
           long = g.limits.long ∙ simp length-replicate (omega arith);
           few = omega arith;
-          small = λ i z. omega (arith, (g.limits.most (i + 2) (simp length-replicate (omega arith))).1, limit-at k i z);
+          small = λ i z. omega (arith, (g.limits.most (i + 2) (simp length-replicate (omega arith))).1, limit_at k i z);
           put = g.put;
         } in
         record { found = λ z. a; none = λ z. absurd (true≢false z) }
 
 module _ {most : ℕ} {l : Line} {count : ℕ} {v w : List ℕ} (a : CornersAre most l count v w) (room : length v ≡ 14) (few : most ≤ 12) where
   -- what is stored of it: the numbers behind region and area code
-  pub corner-words : {m : ℕ} → m ≡ count → view w 2 m ≡ drop 2 a.ns
-  corner-words {m} e =
-      let f = first-words v a.ns (count + 2) a.put a.long (omega (arith, a.few)) in
+  pub corner_words_lem : {m : ℕ} → m ≡ count → view w 2 m ≡ drop 2 a.ns
+  corner_words_lem {m} e =
+      let f = first_words v a.ns (count + 2) a.put a.long (omega (arith, a.few)) in
       let d : count + 2 - 2 ≡ m = omega arith in
-      sym (ap (drop 2) (sym f) ∙ drop-take 2 (count + 2) w ∙ rw d refl)
+      sym (ap (drop 2) (sym f) ∙ drop_take 2 (count + 2) w ∙ rw d refl)
 
-  pub corner-count : length (drop 2 a.ns) ≡ count
-  corner-count = simp length-drop (omega (arith, a.long))
+  pub corner_count : length (drop 2 a.ns) ≡ count
+  corner_count = simp length-drop (omega (arith, a.long))
 
-  pub corner-small : (i : ℕ) → i < count → get_or (drop 2 a.ns) i 0 ≤ 65535
-  corner-small i h =
+  pub corner_small : (i : ℕ) → i < count → get_or (drop 2 a.ns) i 0 ≤ 65535
+  corner_small i h =
       let e : 2 + i ≡ i + 2 = omega arith in
       let q : get_or (drop 2 a.ns) i 0 ≡ get_or a.ns (i + 2) 0 = get_or-drop 2 a.ns i 0 ∙ rw e refl in
       omega (arith, a.small i h)
 
-  pub corners-ready : {ps : List ℕ} (i : ℕ) {words : ℕ} (m : ℕ) → m ≡ count → most ≤ words → i * words + words ≤ length ps
+  pub corners_ready : {ps : List ℕ} (i : ℕ) {words : ℕ} (m : ℕ) → m ≡ count → most ≤ words → i * words + words ≤ length ps
       → RowReady 65535 ps (i * words) words (view w 2 m)
-  corners-ready {ps} i {words} m e h r =
-      rw (corner-words e) record {
+  corners_ready {ps} i {words} m e h r =
+      rw (corner_words_lem e) record {
         room = r;
-        few = omega (arith, corner-count, a.few);
-        small = λ j z. corner-small j (omega (arith, corner-count));
+        few = omega (arith, corner_count, a.few);
+        small = λ j z. corner_small j (omega (arith, corner_count));
       }
 
 -- ---- an `n` line
@@ -112,40 +112,40 @@ module _ {most : ℕ} {l : Line} {count : ℕ} {v w : List ℕ} (a : CornersAre 
 -- the line's numbers, and what is stored of them
 pub record LinksGood (n : ℕ) (l : Line) (w : List ℕ) : Type 0 where
   pub ns : List ℕ
-  pub says : linkNumbers n l ≡ numbers ns
+  pub says : link_numbers n l ≡ numbers ns
   pub long : length ns ≡ n
   pub first : take n w ≡ ns
-  pub small : (i : ℕ) → i < n → get_or ns i 0 ≤ linkMost
+  pub small : (i : ℕ) → i < n → get_or ns i 0 ≤ link_most
 
-module _ (n : ℕ) (l : Line) (few : n ≤ 12) {r : Bool} {w : List ℕ} (x : RowRead nName 0 (take n (replicate 12 linkMost)) l r (replicate 12 0) w) where
-  link_row : RowRead nName 0 (replicate n linkMost) l r (replicate 12 0) w
-  link_row = subst (λ (ms : List ℕ). RowRead nName 0 ms l r (replicate 12 0) w) (take-replicate n 12 linkMost few) x
+module _ (n : ℕ) (l : Line) (few : n ≤ 12) {r : Bool} {w : List ℕ} (x : RowRead n_name 0 (take n (replicate 12 link_most)) l r (replicate 12 0) w) where
+  link_row : RowRead n_name 0 (replicate n link_most) l r (replicate 12 0) w
+  link_row = subst (λ (ms : List ℕ). RowRead n_name 0 ms l r (replicate 12 0) w) (take_replicate n 12 link_most few) x
 
-  pub links-good : r ≡ true → LinksGood n l w
-  unfolding linkNumbers
-  links-good q =
-      let g = row-good link_row q in
-      let long : length g.ns ≡ n = g.limits.long ∙ length-replicate n linkMost in
+  pub links_good : r ≡ true → LinksGood n l w
+  unfolding link_numbers
+  links_good q =
+      let g = row_good link_row q in
+      let long : length g.ns ≡ n = g.limits.long ∙ length-replicate n link_most in
       record {
         ns = g.ns;
         says = g.says;
         long = long;
-        first = first-words (replicate 12 0) g.ns n g.put long few;
-        small = λ i z. omega (arith, (g.limits.most i (simp length-replicate z)).1, get_or-replicate n i linkMost 0 z);
+        first = first_words (replicate 12 0) g.ns n g.put long few;
+        small = λ i z. omega (arith, (g.limits.most i (simp length-replicate z)).1, get_or-replicate n i link_most 0 z);
       }
 
-  pub links-none : r ≡ false → linkNumbers n l ≡ malformed
-  unfolding linkNumbers
-  links-none q = row-bad link_row q
+  pub links_none : r ≡ false → link_numbers n l ≡ malformed
+  unfolding link_numbers
+  links_none q = row_bad link_row q
 
 -- a line that is missing has none
-no-links : (n : ℕ) → linkNumbers n [] ≡ malformed
-unfolding linkNumbers numbersOf
-no-links n = refl
+no_links_lem : (n : ℕ) → link_numbers n [] ≡ malformed
+unfolding link_numbers numbers_of
+no_links_lem n = refl
 
-pub links-ready : {n : ℕ} {l : Line} {w ls : List ℕ} (i : ℕ) {words : ℕ} → LinksGood n l w → n ≤ words → i * words + words ≤ length ls
+pub links_ready : {n : ℕ} {l : Line} {w ls : List ℕ} (i : ℕ) {words : ℕ} → LinksGood n l w → n ≤ words → i * words + words ≤ length ls
     → RowReady 4294967295 ls (i * words) words (take n w)
-links-ready i g h r =
+links_ready i g h r =
     rw g.first record { room = r; few = omega (arith, g.long); small = λ j z. g.small j (omega (arith, g.long)) }
 
 -- one row more
@@ -153,46 +153,46 @@ pub row_more : (ws ns : List ℕ) (i words : ℕ) → length ns ≤ words → i 
     → take ((i + 1) * words) (splice ws (i * words) (padded words ns)) ≡ take (i * words) ws ++ padded words ns
 row_more ws ns i words h r =
     let e : (i + 1) * words ≡ i * words + words = omega arith in
-    take-splice-end ws (i * words) ((i + 1) * words) (padded words ns) (omega (arith, length-padded words ns h)) (omega arith)
+    take_splice_end ws (i * words) ((i + 1) * words) (padded words ns) (omega (arith, length_padded words ns h)) (omega arith)
 
 module _ {text : List ℕ} {p : Progress} {words i n : ℕ} {ls : List ℕ} (ready : RowAtReady text p words i n ls) where
   -- the line is bad
-  pub links-bad : linkNumbers n (line_at (lines_of (drop p.at text)) 0) ≡ malformed → {q : Progress} → q ≡ stoppedAt p → LinksRead text p q words i n ls ls
-  unfolding stoppedAt
-  links-bad e x = subst (λ (q : Progress). LinksRead text p q words i n ls ls) (sym x) (record {
-    within = stopped-within text p ready.within;
+  pub links_bad : link_numbers n (line_at (lines_of (drop p.at text)) 0) ≡ malformed → {q : Progress} → q ≡ stopped_at p → LinksRead text p q words i n ls ls
+  unfolding stopped_at
+  links_bad e x = subst (λ (q : Progress). LinksRead text p q words i n ls ls) (sym x) (record {
+    within = stopped_within text p ready.within;
     long = refl;
     ms = [];
     more = λ z. absurd (true≢false (sym z));
-    same = λ f. need-bad p.line _ e ∙ rest-stopped text p _;
+    same = λ f. need_bad p.line _ e ∙ rest_stopped text p _;
   })
 
   module _ {e : ℕ} (q : e ≡ p.at + place_of lf (drop p.at text)) where
     -- there is none
-    pub links-open : length text ≤ e → {s : Progress} → s ≡ stoppedAt p → LinksRead text p s words i n ls ls
-    links-open h = links-bad (ap (linkNumbers n) (line-none text p.at q h) ∙ no-links n)
+    pub links_open : length text ≤ e → {s : Progress} → s ≡ stopped_at p → LinksRead text p s words i n ls ls
+    links_open h = links_bad (ap (link_numbers n) (line_none text p.at q h) ∙ no_links_lem n)
 
     module _ (h : e < length text) where
-      here : line_at (lines_of (drop p.at text)) 0 ≡ parts tabByte (view text p.at (e - p.at))
+      here : line_at (lines_of (drop p.at text)) 0 ≡ parts tab_byte (view text p.at (e - p.at))
       unfolding line_at
-      here = rw (line-here text p.at q h) refl
+      here = rw (line_here text p.at q h) refl
 
-      pub links-missed : linkNumbers n (parts tabByte (view text p.at (e - p.at))) ≡ malformed → {s : Progress} → s ≡ stoppedAt p
+      pub links_missed : link_numbers n (parts tab_byte (view text p.at (e - p.at))) ≡ malformed → {s : Progress} → s ≡ stopped_at p
           → LinksRead text p s words i n ls ls
-      links-missed z = links-bad (ap (linkNumbers n) here ∙ z)
+      links_missed z = links_bad (ap (link_numbers n) here ∙ z)
 
-      pub links-put : {w ls' : List ℕ} → LinksGood n (parts tabByte (view text p.at (e - p.at))) w → ls' ≡ splice ls (i * words) (padded words (take n w))
+      pub links_put : {w ls' : List ℕ} → LinksGood n (parts tab_byte (view text p.at (e - p.at))) w → ls' ≡ splice ls (i * words) (padded words (take n w))
           → LinksRead text p (record { good = true; line = p.line + 1; at = e + 1 }) words i n ls ls'
-      unfolding restBy line_at
-      links-put {w} {ls'} g x =
+      unfolding rest_by line_at
+      links_put {w} {ls'} g x =
           let t = ready.within in
           let y : ls' ≡ splice ls (i * words) (padded words g.ns) = x ∙ ap (λ (l : List ℕ). splice ls (i * words) (padded words l)) g.first in
           record {
-            within = next-within text p.at q t.inside t.short t.small h;
-            long = ap length y ∙ length-splice ls (i * words) (padded words g.ns);
+            within = next_within text p.at q t.inside t.short t.small h;
+            long = ap length y ∙ length_splice ls (i * words) (padded words g.ns);
             ms = g.ns;
             more = λ z. rw y (row_more ls g.ns i words (omega (arith, g.long, ready.corners)) ready.room);
             same = λ f.
-                need-good p.line _ (ap (linkNumbers n) here ∙ g.says)
-                ∙ ap (λ (l : List Line). f (p.line + 1) (drop 1 l) g.ns) (line-here text p.at q h);
+                need_good p.line _ (ap (link_numbers n) here ∙ g.says)
+                ∙ ap (λ (l : List Line). f (p.line + 1) (drop 1 l) g.ns) (line_here text p.at q h);
           }

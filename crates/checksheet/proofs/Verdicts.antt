@@ -7,75 +7,75 @@ use native.Mathlib.Omega.{arith}
 use borrow.Author.Tests.{eq-eqb, ne_eqb}
 use lib.IntN.{ℤ}
 use lib.ListN.{length, take, drop}
-use Rattle.mem.specs.Cases.{eq-or-ne}
+use Rattle.mem.specs.Cases.{eq_or_ne}
 use Rattle.rules.specs.Lines.{ascii, lf, Line, lines_of}
-use Rattle.rules.specs.Checks.{vertexStride}
-use Rattle.rules.specs.Sheet.{bytesMost, Read, taken, bad, and_then, readHeading, refusedText, readText}
-use Rattle.rules.specs.CheckSheet.{rowWords, acceptedName, noMeshYet, verdictText, readMesh, readClaim, checkText}
-use Rattle.rules.specs.Checker.{Claim, verdict, verdictNumber, verdictSecond}
+use Rattle.rules.specs.Checks.{vertex_stride}
+use Rattle.rules.specs.Sheet.{bytes_most, Read, taken, bad, and_then, read_heading, refused_text, read_text}
+use Rattle.rules.specs.CheckSheet.{row_words, accepted_name, no_mesh_yet, verdict_text, read_mesh, read_claim, check_text}
+use Rattle.rules.specs.Checker.{Claim, verdict, verdict_number, verdict_second}
 use Rattle.rules.specs.declared.Verdict.{Verdict}
-use Rattle.checker.specs.Asked.{claimIn}
+use Rattle.checker.specs.Asked.{claim_in}
 use Rattle.sheet.specs.declared.heading.Heading.{Heading}
 use Rattle.sheet.specs.declared.heading.HeadingRead.{HeadingRead}
 use Rattle.sheet.specs.declared.heading.HeadingRead.TheVariants.{Headed, Refused}
-use Rattle.sheet.specs.Reading.{sheetOf, headedAs, BehindIs, Behind}
-use Rattle.sheet.specs.Room.{outMost, refused-room}
-use Rattle.sheet.specs.Texts.{long-bytes, short-bytes, text-read, bad-text}
+use Rattle.sheet.specs.Reading.{sheet_of, headed_as, BehindIs, Behind}
+use Rattle.sheet.specs.Room.{out_most, refused_room}
+use Rattle.sheet.specs.Texts.{long_bytes, short_bytes, text_read, bad_text}
 use Rattle.checksheet.specs.declared.claim.ClaimRead.{ClaimRead}
 use Rattle.checksheet.specs.declared.claim.ClaimRead.TheVariants.{Claimed, Unread}
-use Rattle.checksheet.specs.Reading.{withMesh}
+use Rattle.checksheet.specs.Reading.{with_mesh}
 use Rattle.checksheet.specs.Claims.{claim_of, ClaimedAs, FoundAs, MeshRead}
-use Rattle.checksheet.specs.Answer.{numbersText, claimText, answerText, linesText, LinesReady}
+use Rattle.checksheet.specs.Answer.{numbers_text, claim_text, answer_text, lines_text, LinesReady}
 
 -- ---- a verdict
-pub accepted-short : length (acceptedName ++ (lf ∷ [])) ≡ 9
-unfolding acceptedName ascii
-accepted-short = refl
+pub accepted_short : length (accepted_name ++ (lf ∷ [])) ≡ 9
+unfolding accepted_name ascii
+accepted_short = refl
 
 module _ (number second : ℕ) where
-  pub numbers-accepted : number ≡ 0 → numbersText number second ≡ acceptedName ++ (lf ∷ [])
-  unfolding numbersText
-  numbers-accepted e = rw (eq-eqb number 0 e, numbersText) refl
+  pub numbers_accepted : number ≡ 0 → numbers_text number second ≡ accepted_name ++ (lf ∷ [])
+  unfolding numbers_text
+  numbers_accepted e = rw (eq-eqb number 0 e, numbers_text) refl
 
-  pub numbers-refused : number ≢ 0 → numbersText number second ≡ refusedText number second
-  unfolding numbersText
-  numbers-refused e = rw (ne_eqb number 0 e, numbersText) refl
+  pub numbers_refused : number ≢ 0 → numbers_text number second ≡ refused_text number second
+  unfolding numbers_text
+  numbers_refused e = rw (ne_eqb number 0 e, numbers_text) refl
 
-  pub numbers-short : length (numbersText number second) ≤ 50
-  numbers-short = ⊎_elim
-      (λ (e : number ≡ 0). omega (arith, ap length (numbers-accepted e), accepted-short))
-      (λ (e : number ≢ 0). omega (arith, ap length (numbers-refused e), refused-room number second))
-      (eq-or-ne number 0)
+  pub numbers_short : length (numbers_text number second) ≤ 50
+  numbers_short = ⊎_elim
+      (λ (e : number ≡ 0). omega (arith, ap length (numbers_accepted e), accepted_short))
+      (λ (e : number ≢ 0). omega (arith, ap length (numbers_refused e), refused_room number second))
+      (eq_or_ne number 0)
 
-verdict-numbers : (v : Verdict) → numbersText (verdictNumber v) (verdictSecond v) ≡ verdictText v
-unfolding numbersText verdictText
-verdict-numbers v = refl
+verdict_numbers : (v : Verdict) → numbers_text (verdict_number v) (verdict_second v) ≡ verdict_text v
+unfolding numbers_text verdict_text
+verdict_numbers v = refl
 
 -- y is the total as the bits say it
-pub answer-is : (x : Heading) (z : ℤ) (vs ps ls : List ℕ) {y : ℤ} {v : Verdict} {number second : ℕ} → y ≡ z
-    → v ≡ verdict (claimIn x.nvp x.w x.h x.border y vs ps ls) → number ≡ verdictNumber v → second ≡ verdictSecond v
-    → numbersText number second ≡ answerText x z vs ps ls
-unfolding answerText claimText withMesh noMeshYet sheetOf
-answer-is x z vs ps ls {y} {v} t e n s = rw (n, s, ← t) (verdict-numbers v ∙ ap verdictText e)
+pub answer_is : (x : Heading) (z : ℤ) (vs ps ls : List ℕ) {y : ℤ} {v : Verdict} {number second : ℕ} → y ≡ z
+    → v ≡ verdict (claim_in x.nvp x.w x.h x.border y vs ps ls) → number ≡ verdict_number v → second ≡ verdict_second v
+    → numbers_text number second ≡ answer_text x z vs ps ls
+unfolding answer_text claim_text with_mesh no_mesh_yet sheet_of
+answer_is x z vs ps ls {y} {v} t e n s = rw (n, s, ← t) (verdict_numbers v ∙ ap verdict_text e)
 
 -- ---- what is read
-claim-short : (c : Claim) → length (claimText c) ≤ 50
-unfolding claimText
-claim-short c = rw (← (verdict-numbers (verdict c))) (numbers-short (verdictNumber (verdict c)) (verdictSecond (verdict c)))
+claim_short : (c : Claim) → length (claim_text c) ≤ 50
+unfolding claim_text
+claim_short c = rw (← (verdict_numbers (verdict c))) (numbers_short (verdict_number (verdict c)) (verdict_second (verdict c)))
 
-read_short : (r : Read Claim) → length (readText claimText r) ≤ 50
-unfolding readText
-read_short (taken c) = claim-short c
-read_short (bad n k) = refused-room n k
+read_short : (r : Read Claim) → length (read_text claim_text r) ≤ 50
+unfolding read_text
+read_short (taken c) = claim_short c
+read_short (bad n k) = refused_room n k
 
-pub lines-short : (text : List ℕ) (x : Heading) → length (linesText text x) ≤ 50
-unfolding linesText
-lines-short text x = read_short (readMesh (lines_of (drop x.at text)) (sheetOf x))
+pub lines_short : (text : List ℕ) (x : Heading) → length (lines_text text x) ≤ 50
+unfolding lines_text
+lines_short text x = read_short (read_mesh (lines_of (drop x.at text)) (sheet_of x))
 
 module _ (text : List ℕ) (x : Heading) {r : ClaimRead} {vs ps ls : List ℕ} (m : MeshRead text x r vs ps ls) where
-  pub unread-text : {line : ℕ} → r ≡ Unread line → refusedText 22 line ≡ linesText text x
-  unfolding FoundAs linesText readText
-  unread-text e = sym (ap (readText claimText) (subst (λ (q : ClaimRead). FoundAs text x q vs ps ls) e m.found))
+  pub unread_text : {line : ℕ} → r ≡ Unread line → refused_text 22 line ≡ lines_text text x
+  unfolding FoundAs lines_text read_text
+  unread_text e = sym (ap (read_text claim_text) (subst (λ (q : ClaimRead). FoundAs text x q vs ps ls) e m.found))
 
   module _ {k n : ℕ} {z : ℤ} (e : r ≡ Claimed k n z) where
     pub claimed : ClaimedAs text x k n z vs ps ls
@@ -83,31 +83,31 @@ module _ (text : List ℕ) (x : Heading) {r : ClaimRead} {vs ps ls : List ℕ} (
     claimed = subst (λ (q : ClaimRead). FoundAs text x q vs ps ls) e m.found
 
     -- y is the total as the bits say it
-    pub claimed-text : {rows : ℕ} {y : ℤ} → y ≡ z → rows ≡ n * rowWords x.nvp
-        → answerText x y (take (k * vertexStride) vs) (take rows ps) (take rows ls) ≡ linesText text x
-    unfolding linesText readText answerText claim_of
-    claimed-text t w = rw (t, w) (sym (ap (readText claimText) claimed.same))
+    pub claimed_text : {rows : ℕ} {y : ℤ} → y ≡ z → rows ≡ n * row_words x.nvp
+        → answer_text x y (take (k * vertex_stride) vs) (take rows ps) (take rows ls) ≡ lines_text text x
+    unfolding lines_text read_text answer_text claim_of
+    claimed_text t w = rw (t, w) (sym (ap (read_text claim_text) claimed.same))
 
 -- ---- the whole
 module _ (t : List ℕ) where
-  pub long-text : bytesMost < length t → checkText t ≡ refusedText 23 0
-  unfolding checkText
-  long-text h = bad-text readClaim (λ c. verdictText (verdict c)) t (long-bytes readClaim t h)
+  pub long_text : bytes_most < length t → check_text t ≡ refused_text 23 0
+  unfolding check_text
+  long_text h = bad_text read_claim (λ c. verdict_text (verdict c)) t (long_bytes read_claim t h)
 
-  module _ (h : length t ≤ bytesMost) {r : HeadingRead} (e : readHeading (lines_of t) ≡ headedAs r) where
-    pub refused-text : {n k : ℕ} → r ≡ Refused n k → checkText t ≡ refusedText n k
-    unfolding checkText readClaim headedAs and_then
-    refused-text q = bad-text readClaim (λ c. verdictText (verdict c)) t (short-bytes readClaim t h ∙ rw (e ∙ ap headedAs q) refl)
+  module _ (h : length t ≤ bytes_most) {r : HeadingRead} (e : read_heading (lines_of t) ≡ headed_as r) where
+    pub refused_text_lem : {n k : ℕ} → r ≡ Refused n k → check_text t ≡ refused_text n k
+    unfolding check_text read_claim headed_as and_then
+    refused_text_lem q = bad_text read_claim (λ c. verdict_text (verdict c)) t (short_bytes read_claim t h ∙ rw (e ∙ ap headed_as q) refl)
 
     module _ {x : Heading} (q : r ≡ Headed x) (b : Behind t r) where
-      pub lines-ready : {out : List ℕ} → length out ≡ outMost → LinesReady t x out
+      pub lines_ready : {out : List ℕ} → length out ≡ out_most → LinesReady t x out
       unfolding BehindIs
-      lines-ready o = record { inside = (subst (Behind t) q b).within; short = h; room = omega arith }
+      lines_ready o = record { inside = (subst (Behind t) q b).within; short = h; room = omega arith }
 
-      on : readClaim (lines_of t) ≡ readMesh (lines_of (drop x.at t)) (sheetOf x)
-      unfolding readClaim headedAs and_then BehindIs
-      on = rw (e ∙ ap headedAs q) (ap (λ (ls : List Line). readMesh ls (sheetOf x)) (sym (subst (Behind t) q b).rest))
+      on : read_claim (lines_of t) ≡ read_mesh (lines_of (drop x.at t)) (sheet_of x)
+      unfolding read_claim headed_as and_then BehindIs
+      on = rw (e ∙ ap headed_as q) (ap (λ (ls : List Line). read_mesh ls (sheet_of x)) (sym (subst (Behind t) q b).rest))
 
-      pub headed-text : checkText t ≡ linesText t x
-      unfolding checkText linesText claimText
-      headed-text = text-read readClaim (λ c. verdictText (verdict c)) t ∙ ap (readText (λ c. verdictText (verdict c))) (short-bytes readClaim t h ∙ on)
+      pub headed_text : check_text t ≡ lines_text t x
+      unfolding check_text lines_text claim_text
+      headed_text = text_read read_claim (λ c. verdict_text (verdict c)) t ∙ ap (read_text (λ c. verdict_text (verdict c))) (short_bytes read_claim t h ∙ on)

@@ -3,9 +3,9 @@ use Rattle.std.specs.Prelude.{◌≡◌, true, false, cond, List, [], ◌++◌, 
 use Rattle.mem.specs.Slice.{splice}
 use Rattle.rules.specs.Lines.{Line, lines_of, numbers, malformed}
 use Rattle.rules.specs.Exits.{padded}
-use Rattle.rules.specs.Checks.{vertexStride}
-use Rattle.rules.specs.Sheet.{bytesMost, numberMost, Read, taken, bad, line_at, need}
-use Rattle.rules.specs.CheckSheet.{countMost, rowWords, needMesh, cornerNumbers, linkNumbers, readPolygons, readPlaces}
+use Rattle.rules.specs.Checks.{vertex_stride}
+use Rattle.rules.specs.Sheet.{bytes_most, number_most, Read, taken, bad, line_at, need}
+use Rattle.rules.specs.CheckSheet.{count_most, row_words, need_mesh, corner_numbers, link_numbers, read_polygons, read_places}
 use Rattle.rules.specs.Checker.{Claim}
 use Rattle.checksheet.specs.declared.counts.MeshLine.{MeshLine}
 use Rattle.checksheet.specs.declared.counts.MeshLine.TheVariants.{Counted, Missing}
@@ -16,19 +16,19 @@ use Rattle.checksheet.specs.declared.rows.Corners.{Corners}
 
 -- the line l says these counts and this total, and with them it goes on
 pub record CountedAs (l : Line) (k n : ℕ) (z : ℤ) : Type 0 where
-  pub places : k ≤ countMost
-  pub polygons : n ≤ countMost
-  pub says : (line : ℕ) (f : ℕ → ℕ → ℤ → Read Claim) → needMesh line l f ≡ f k n z
+  pub places : k ≤ count_most
+  pub polygons : n ≤ count_most
+  pub says : (line : ℕ) (f : ℕ → ℕ → ℤ → Read Claim) → need_mesh line l f ≡ f k n z
 
 unfoldable pub MeshIs : Line → MeshLine → Type 0
 MeshIs l (Counted k n z) = CountedAs l k n z
-MeshIs l Missing = (line : ℕ) (f : ℕ → ℕ → ℤ → Read Claim) → needMesh line l f ≡ bad 22 line
+MeshIs l Missing = (line : ℕ) (f : ℕ → ℕ → ℤ → Read Claim) → need_mesh line l f ≡ bad 22 line
 
 -- ---- the claim, and how far it has been read
 
 -- the claim with these lists in its mesh
-unfoldable pub withMesh : Claim → List ℕ → List ℕ → List ℕ → Claim
-withMesh c vs ps ls = record {
+unfoldable pub with_mesh : Claim → List ℕ → List ℕ → List ℕ → Claim
+with_mesh c vs ps ls = record {
   mesh = record { nvp = c.mesh.nvp; vertices = vs; polygons = ps; links = ls };
   w = c.w;
   h = c.h;
@@ -37,8 +37,8 @@ withMesh c vs ps ls = record {
 }
 
 -- what the lines from p on come to, by f, which is told the number of the first of them
-unfoldable pub restBy : List ℕ → Progress → (ℕ → List Line → Read Claim) → Read Claim
-restBy text p f = elim p.good [
+unfoldable pub rest_by : List ℕ → Progress → (ℕ → List Line → Read Claim) → Read Claim
+rest_by text p f = elim p.good [
   | true ↦ f p.line (lines_of (drop p.at text))
   | false ↦ bad 22 p.line
 ]
@@ -48,13 +48,13 @@ unfoldable pub end_of : Progress → Claim → Read Claim
 end_of p c = cond p.good (taken c) (bad 22 p.line)
 
 -- the reading ends here
-unfoldable pub stoppedAt : Progress → Progress
-stoppedAt p = record { good = false; line = p.line; at = p.at }
+unfoldable pub stopped_at : Progress → Progress
+stopped_at p = record { good = false; line = p.line; at = p.at }
 
 -- the place is within the text, and its line's number is small
 pub record Within (text : List ℕ) (p : Progress) : Type 0 where
   pub inside : p.at ≤ length text
-  pub short : length text ≤ bytesMost
+  pub short : length text ≤ bytes_most
   pub small : p.line ≤ 6 + p.at
 
 -- ---- the vertices
@@ -62,27 +62,27 @@ pub record Within (text : List ℕ) (p : Progress) : Type 0 where
 -- the line of vertex i can be read
 pub record PlaceReady (text : List ℕ) (p : Progress) (i : ℕ) (vs : List ℕ) : Type 0 where
   pub within : Within text p
-  pub room : i * vertexStride + vertexStride ≤ length vs
+  pub room : i * vertex_stride + vertex_stride ≤ length vs
 
 -- it was read, and the rest comes to the same
 pub record PlaceRead (text : List ℕ) (p q : Progress) (i : ℕ) (vs vs' : List ℕ) : Type 0 where
   pub within : Within text q
   pub long : length vs' ≡ length vs
   pub same : (due n : ℕ) (c : Claim)
-      → readPlaces p.line (suc due) n (lines_of (drop p.at text)) (withMesh c (take (i * vertexStride) vs) [] [])
-      ≡ restBy text q (λ k ls. readPlaces k due n ls (withMesh c (take ((i + 1) * vertexStride) vs') [] []))
+      → read_places p.line (suc due) n (lines_of (drop p.at text)) (with_mesh c (take (i * vertex_stride) vs) [] [])
+      ≡ rest_by text q (λ k ls. read_places k due n ls (with_mesh c (take ((i + 1) * vertex_stride) vs') [] []))
 
 -- the lines of k vertices can be read
 pub record PlacesReady (text : List ℕ) (from k : ℕ) (vs : List ℕ) : Type 0 where
   pub inside : from ≤ length text
-  pub short : length text ≤ bytesMost
-  pub room : k * vertexStride ≤ length vs
+  pub short : length text ≤ bytes_most
+  pub room : k * vertex_stride ≤ length vs
 
 -- what stands in the list at the end is what was read: for any claim without a mesh
 pub record PlacesRead (text : List ℕ) (from k : ℕ) (q : Progress) (vs : List ℕ) : Type 0 where
   pub within : Within text q
-  pub same : (n : ℕ) (c : Claim) → readPlaces 6 k n (lines_of (drop from text)) (withMesh c [] [] [])
-      ≡ restBy text q (λ line ls. readPolygons line n ls (withMesh c (take (k * vertexStride) vs) [] []))
+  pub same : (n : ℕ) (c : Claim) → read_places 6 k n (lines_of (drop from text)) (with_mesh c [] [] [])
+      ≡ rest_by text q (λ line ls. read_polygons line n ls (with_mesh c (take (k * vertex_stride) vs) [] []))
 
 -- ---- a polygon
 
@@ -100,15 +100,15 @@ pub record CornersReady (most : ℕ) (v : List ℕ) : Type 0 where
 -- the cells l are those of a `p` line with so many corners, whose numbers stand at the beginning of the words v, which became w
 pub record CornersAre (most : ℕ) (l : Line) (count : ℕ) (v w : List ℕ) : Type 0 where
   pub ns : List ℕ
-  pub says : cornerNumbers most l ≡ numbers ns
+  pub says : corner_numbers most l ≡ numbers ns
   pub long : length ns ≡ count + 2
   pub few : count ≤ most
-  pub small : (i : ℕ) → i < count → get_or ns (i + 2) 0 ≤ numberMost
+  pub small : (i : ℕ) → i < count → get_or ns (i + 2) 0 ≤ number_most
   pub put : w ≡ splice v 0 ns
 
 pub record CornersRead (most : ℕ) (l : Line) (r : Corners) (v w : List ℕ) : Type 0 where
   pub found : r.good ≡ true → CornersAre most l r.count v w
-  pub none : r.good ≡ false → cornerNumbers most l ≡ malformed
+  pub none : r.good ≡ false → corner_numbers most l ≡ malformed
 
 -- the `n` line of polygon i, which has n corners, can be read
 pub record RowAtReady (text : List ℕ) (p : Progress) (words i n : ℕ) (ls : List ℕ) : Type 0 where
@@ -124,8 +124,8 @@ pub record LinksRead (text : List ℕ) (p q : Progress) (words i n : ℕ) (ls ls
   pub ms : List ℕ
   pub more : q.good ≡ true → take ((i + 1) * words) ls' ≡ take (i * words) ls ++ padded words ms
   pub same : (f : ℕ → List Line → List ℕ → Read Claim)
-      → need p.line (linkNumbers n (line_at (lines_of (drop p.at text)) 0)) (f (p.line + 1) (drop 1 (lines_of (drop p.at text))))
-      ≡ restBy text q (λ k lines. f k lines ms)
+      → need p.line (link_numbers n (line_at (lines_of (drop p.at text)) 0)) (f (p.line + 1) (drop 1 (lines_of (drop p.at text))))
+      ≡ rest_by text q (λ k lines. f k lines ms)
 
 -- the lines of polygon i can be read
 pub record PolygonReady (text : List ℕ) (p : Progress) (words i : ℕ) (ps ls : List ℕ) : Type 0 where
@@ -139,9 +139,9 @@ pub record PolygonRead (text : List ℕ) (p q : Progress) (words i : ℕ) (ps ls
   pub within : Within text q
   pub polygons : length ps' ≡ length ps
   pub links : length ls' ≡ length ls
-  pub same : (due : ℕ) (c : Claim) (vs : List ℕ) → rowWords c.mesh.nvp ≡ words
-      → readPolygons p.line (suc due) (lines_of (drop p.at text)) (withMesh c vs (take (i * words) ps) (take (i * words) ls))
-      ≡ restBy text q (λ k lines. readPolygons k due lines (withMesh c vs (take ((i + 1) * words) ps') (take ((i + 1) * words) ls')))
+  pub same : (due : ℕ) (c : Claim) (vs : List ℕ) → row_words c.mesh.nvp ≡ words
+      → read_polygons p.line (suc due) (lines_of (drop p.at text)) (with_mesh c vs (take (i * words) ps) (take (i * words) ls))
+      ≡ rest_by text q (λ k lines. read_polygons k due lines (with_mesh c vs (take ((i + 1) * words) ps') (take ((i + 1) * words) ls')))
 
 -- the lines of n polygons can be read
 pub record PolygonsReady (text : List ℕ) (p : Progress) (words n : ℕ) (ps ls : List ℕ) : Type 0 where
@@ -153,20 +153,20 @@ pub record PolygonsReady (text : List ℕ) (p : Progress) (words n : ℕ) (ps ls
 
 pub record PolygonsRead (text : List ℕ) (p q : Progress) (words n : ℕ) (ps ls : List ℕ) : Type 0 where
   pub within : Within text q
-  pub same : (c : Claim) (vs : List ℕ) → rowWords c.mesh.nvp ≡ words
-      → readPolygons p.line n (lines_of (drop p.at text)) (withMesh c vs [] [])
-      ≡ restBy text q (λ k lines. readPolygons k 0 lines (withMesh c vs (take (n * words) ps) (take (n * words) ls)))
+  pub same : (c : Claim) (vs : List ℕ) → row_words c.mesh.nvp ≡ words
+      → read_polygons p.line n (lines_of (drop p.at text)) (with_mesh c vs [] [])
+      ≡ rest_by text q (λ k lines. read_polygons k 0 lines (with_mesh c vs (take (n * words) ps) (take (n * words) ls)))
 
 -- ---- all that is behind the mesh line
 
 pub record ListsReady (text : List ℕ) (from words k n : ℕ) (vs ps ls : List ℕ) : Type 0 where
   pub inside : from ≤ length text
-  pub short : length text ≤ bytesMost
+  pub short : length text ≤ bytes_most
   pub few : words ≤ 12
-  pub places : k * vertexStride ≤ length vs
+  pub places : k * vertex_stride ≤ length vs
   pub room : n * words ≤ length ps
   pub links : n * words ≤ length ls
 
 pub record ListsRead (text : List ℕ) (from words k n : ℕ) (q : Progress) (vs ps ls : List ℕ) : Type 0 where
-  pub same : (c : Claim) → rowWords c.mesh.nvp ≡ words → readPlaces 6 k n (lines_of (drop from text)) (withMesh c [] [] [])
-      ≡ end_of q (withMesh c (take (k * vertexStride) vs) (take (n * words) ps) (take (n * words) ls))
+  pub same : (c : Claim) → row_words c.mesh.nvp ≡ words → read_places 6 k n (lines_of (drop from text)) (with_mesh c [] [] [])
+      ≡ end_of q (with_mesh c (take (k * vertex_stride) vs) (take (n * words) ps) (take (n * words) ls))

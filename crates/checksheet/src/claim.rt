@@ -1,6 +1,6 @@
 // All that is behind the heading is read.
 ghost use Rattle.std.specs.Prelude.{◌≡◌};
-ghost use Rattle.rules.specs.CheckSheet.{rowWords};
+ghost use Rattle.rules.specs.CheckSheet.{row_words};
 ghost use Rattle.checksheet.specs.Claims.{MeshReady, MeshRead};
 
 use crate::counts::{MeshLine, mesh_cells};
@@ -20,7 +20,7 @@ pub enum ClaimRead {
 
 // How many words a polygon's corners have.
 pub fn row_words(nvp: u32) -> usize
-    ensures { result ≡ rowWords nvp }
+    ensures { result ≡ row_words nvp }
 {
     if nvp <= 12 {
         return nvp as usize;

@@ -1,5 +1,5 @@
 // The mesh line: how many vertices and polygons there are, and their doubled area as it is claimed.
-ghost use Rattle.rules.specs.Lines.{tabByte, parts};
+ghost use Rattle.rules.specs.Lines.{tab_byte, parts};
 ghost use Rattle.checksheet.specs.Reading.{MeshIs};
 
 use lines::numbers::read_numbers;
@@ -22,7 +22,7 @@ pub enum MeshLine {
 
 // What a mesh line says: four cells, the last of which has a sign.
 pub fn mesh_cells(line: &[u8]) -> MeshLine
-    ensures { MeshIs (parts tabByte line.now) result }
+    ensures { MeshIs (parts tab_byte line.now) result }
 {
     let last = last_cell(line);
     if count_cells(line) == 4 {

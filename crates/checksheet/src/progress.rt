@@ -1,6 +1,6 @@
 // How far the reading is.
 ghost use Rattle.std.specs.Prelude.{◌≡◌};
-ghost use Rattle.checksheet.specs.Reading.{stoppedAt};
+ghost use Rattle.checksheet.specs.Reading.{stopped_at};
 
 // The line and the place that come next; or `line` is a line that is malformed, misplaced or missing.
 #[derive(Drop)]
@@ -12,7 +12,7 @@ pub struct Progress {
 
 // The reading ends here.
 pub fn stopped(p: Progress) -> Progress
-    ensures { result ≡ stoppedAt p }
+    ensures { result ≡ stopped_at p }
 {
     Progress {
         good: false,

@@ -1,6 +1,6 @@
 // A polygon's two lines are read.
 ghost use Rattle.std.specs.Prelude.{◌≡◌, ◌-◌};
-ghost use Rattle.rules.specs.Lines.{tabByte, parts};
+ghost use Rattle.rules.specs.Lines.{tab_byte, parts};
 ghost use Rattle.checksheet.specs.Reading.{CornersReady, CornersRead, RowAtReady, LinksRead, PolygonRead, PolygonReady};
 
 use crate::padding::{put_row16, put_row32};
@@ -36,7 +36,7 @@ fn beyond(cells: usize) -> usize
 // A `p` line of at most `most` corners: its numbers go to the beginning of `values`, the corners behind region and area code.
 fn corner_cells(line: &[u8], most: usize, values: &mut [u64]) -> Corners
     requires { CornersReady most values.old }
-    ensures { CornersRead most (parts tabByte line.now) result values.old values.new }
+    ensures { CornersRead most (parts tab_byte line.now) result values.old values.new }
 {
     let cells = count_cells(line);
     if cells <= 3 + most {

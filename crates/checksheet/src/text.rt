@@ -1,8 +1,8 @@
 // A printed mesh becomes a text.
 ghost use Rattle.std.specs.Prelude.{◌≤◌, ◌≡◌, length, take};
-ghost use Rattle.rules.specs.CheckSheet.{checkText};
+ghost use Rattle.rules.specs.CheckSheet.{check_text};
 ghost use Rattle.lines.specs.Print.{Printed};
-ghost use Rattle.checksheet.specs.Answer.{LinesReady, linesText};
+ghost use Rattle.checksheet.specs.Answer.{LinesReady, lines_text};
 
 use crate::answer::put_answer;
 use crate::claim::{ClaimRead, read_mesh, row_words};
@@ -13,7 +13,7 @@ use sheet::rows::put_refused;
 // What is behind the heading x: its lists, and the verdict on them.
 fn check_lines(text: &[u8], x: Heading, out: &mut [u8]) -> usize
     requires { LinesReady text.now x out.old }
-    ensures { Printed (linesText text.now x) out.old out.new 0 result }
+    ensures { Printed (lines_text text.now x) out.old out.new 0 result }
 {
     let mut vertices = [0u16; 24576];
     let mut polygons = [0u16; 98304];
@@ -37,7 +37,7 @@ fn check_lines(text: &[u8], x: Heading, out: &mut [u8]) -> usize
 // What is printed for a mesh: its bytes in, and the text at the beginning of `out`. Any bytes may be handed in. The answer is
 // the text's length.
 pub fn check_sheet(text: &[u8], out: &mut [u8; 65536]) -> usize
-    ensures printed { Printed (checkText text.now) out.old out.new 0 result }
+    ensures printed { Printed (check_text text.now) out.old out.new 0 result }
     ensures counted { (result ≤ length out.new) × (result ≡ length (take result out.new)) }
 {
     if text.len() > 65536 {

@@ -1,10 +1,10 @@
 -- What the function that adds one contour asks for, and what it answers and leaves. Definitions only.
 use Rattle.std.specs.Prelude.{List, ℕ, ◌+◌, ◌-◌, ◌*◌, ◌≤◌, ◌<◌, length}
-use Rattle.rules.specs.Plane.{onPlane, InGrid}
+use Rattle.rules.specs.Plane.{on_plane, InGrid}
 use Rattle.rules.specs.Ears.{Ears, done, stuck}
 use Rattle.rules.specs.Mesh.{Mesh}
-use Rattle.rules.specs.Job.{jobStride, vertexAt, contourVertices, contourFlags}
-use Rattle.rules.specs.Build.{weldHeight, addContour}
+use Rattle.rules.specs.Job.{job_stride, vertex_at, contour_vertices, contour_flags}
+use Rattle.rules.specs.Build.{weld_height, add_contour}
 use Rattle.contours.specs.declared.ground.Ground.{Ground}
 use Rattle.contours.specs.declared.ground.Contour.{Contour}
 use Rattle.contours.specs.declared.add.Added.{Added}
@@ -17,15 +17,15 @@ pub record AddReady (w ns : List ℕ) (g : Ground) (nv np nvp : ℕ) (c : Contou
   pub vertices : nv + c.n ≤ g.v
   pub polygons : np + (c.n - 2) ≤ g.t
   pub some : 3 ≤ c.n
-  pub input : (c.first + c.n) * jobStride ≤ length ns
-  pub grid : (k : ℕ) → k < c.n → InGrid (onPlane (vertexAt ns (c.first + k)))
+  pub input : (c.first + c.n) * job_stride ≤ length ns
+  pub grid : (k : ℕ) → k < c.n → InGrid (on_plane (vertex_at ns (c.first + k)))
 
 -- the mesh m once the contour c was cut like this: its triangles are added, or the mesh is as it was
-unfoldable pub grownBy : ℕ → List ℕ → Contour → Mesh → Ears → Mesh
-grownBy nvp ns c m (done ts) = addContour weldHeight nvp c.region c.code (contourVertices ns c.first c.n) (contourFlags ns c.first c.n) ts m
-grownBy nvp ns c m (stuck k) = m
+unfoldable pub grown_by : ℕ → List ℕ → Contour → Mesh → Ears → Mesh
+grown_by nvp ns c m (done ts) = add_contour weld_height nvp c.region c.code (contour_vertices ns c.first c.n) (contour_flags ns c.first c.n) ts m
+grown_by nvp ns c m (stuck k) = m
 
 -- the answer, where m is that mesh
-unfoldable pub addedOf : Mesh → Ears → Added
-addedOf m (done ts) = To (length m.vertices) (length m.polygons)
-addedOf m (stuck k) = NoEar k
+unfoldable pub added_of : Mesh → Ears → Added
+added_of m (done ts) = To (length m.vertices) (length m.polygons)
+added_of m (stuck k) = NoEar k

@@ -1,9 +1,9 @@
 // One contour is added to the mesh.
 ghost use Rattle.std.specs.Prelude.{◌≡◌, length};
 ghost use Rattle.rules.specs.Ears as Rules;
-ghost use Rattle.contours.specs.Cutting.{placesIn};
-ghost use Rattle.contours.specs.Ground.{groundIn, meshAt};
-ghost use Rattle.contours.specs.Adding.{AddReady, grownBy, addedOf};
+ghost use Rattle.contours.specs.Cutting.{places_in};
+ghost use Rattle.contours.specs.Ground.{ground_in, mesh_at};
+ghost use Rattle.contours.specs.Adding.{AddReady, grown_by, added_of};
 
 use crate::cut::cut_contour;
 use crate::ground::{Contour, Ground};
@@ -36,8 +36,8 @@ pub fn add_contour(
     c: Contour,
 ) -> Added
     requires { AddReady work.old numbers.now g nv np nvp c }
-    ensures answer { result ≡ addedOf (grownBy nvp numbers.now c (meshAt work.old g nv np) (Rules.triangulate (placesIn numbers.now c.first c.n))) (Rules.triangulate (placesIn numbers.now c.first c.n)) }
-    ensures words { work.new ≡ groundIn (length work.old) g (grownBy nvp numbers.now c (meshAt work.old g nv np) (Rules.triangulate (placesIn numbers.now c.first c.n))) }
+    ensures answer { result ≡ added_of (grown_by nvp numbers.now c (mesh_at work.old g nv np) (Rules.triangulate (places_in numbers.now c.first c.n))) (Rules.triangulate (places_in numbers.now c.first c.n)) }
+    ensures words { work.new ≡ ground_in (length work.old) g (grown_by nvp numbers.now c (mesh_at work.old g nv np) (Rules.triangulate (places_in numbers.now c.first c.n))) }
 {
     let po = g.scratch + g.v;
     match cut_contour(work, numbers, c.first, c.n, po) {

@@ -2,12 +2,12 @@
 ghost use Rattle.std.specs.Prelude.{◌≡◌, ◌+◌, ◌*◌, ◌≤◌, length};
 ghost use Rattle.mem.specs.Slice.{splice};
 ghost use Rattle.mem.specs.Packed.{packed};
-ghost use Rattle.rules.specs.Plane.{onPlane};
-ghost use Rattle.rules.specs.Job.{jobStride, vertexAt};
+ghost use Rattle.rules.specs.Plane.{on_plane};
+ghost use Rattle.rules.specs.Job.{job_stride, vertex_at};
 ghost use Rattle.rules.specs.Ears as Rules;
 ghost use Rattle.ears.specs.Part.{answer_of};
-ghost use Rattle.holes.specs.Fill.{placeWords, cutWords};
-ghost use Rattle.contours.specs.Cutting.{placesIn, LayReady, CutReady};
+ghost use Rattle.holes.specs.Fill.{place_words, cut_words};
+ghost use Rattle.contours.specs.Cutting.{places_in, LayReady, CutReady};
 
 use checks::counts::JOB_STRIDE;
 use ears::cut::{Triangulation, triangulate};
@@ -15,8 +15,8 @@ use rules::Point;
 
 // Where vertex k of a job stands.
 fn place_in(numbers: &[u16], k: usize) -> Point
-    requires { k * jobStride + jobStride ≤ length numbers.now }
-    ensures { result ≡ onPlane (vertexAt numbers.now k) }
+    requires { k * job_stride + job_stride ≤ length numbers.now }
+    ensures { result ≡ on_plane (vertex_at numbers.now k) }
 {
     let at = k * JOB_STRIDE;
     Point {
@@ -28,7 +28,7 @@ fn place_in(numbers: &[u16], k: usize) -> Point
 // The places of the n vertices of a job from `first` on go to po, two words each.
 pub fn lay_contour(work: &mut [u32], numbers: &[u16], first: usize, n: usize, po: usize)
     requires { LayReady work.old numbers.now first n po }
-    ensures { work.new ≡ splice work.old po (packed placeWords (placesIn numbers.now first n)) }
+    ensures { work.new ≡ splice work.old po (packed place_words (places_in numbers.now first n)) }
 {
     let mut k = 0;
     while k < n {
@@ -48,8 +48,8 @@ pub fn cut_contour(
     po: usize,
 ) -> Triangulation
     requires { CutReady work.old numbers.now first n po }
-    ensures answer { result ≡ answer_of (Rules.triangulate (placesIn numbers.now first n)) }
-    ensures words { work.new ≡ splice work.old po (cutWords n (placesIn numbers.now first n) (Rules.triangulate (placesIn numbers.now first n))) }
+    ensures answer { result ≡ answer_of (Rules.triangulate (places_in numbers.now first n)) }
+    ensures words { work.new ≡ splice work.old po (cut_words n (places_in numbers.now first n) (Rules.triangulate (places_in numbers.now first n))) }
 {
     lay_contour(work, numbers, first, n, po);
     let e = po + (n * 6 - 6);

@@ -1,9 +1,9 @@
 // All contours of a job, one after the other.
 ghost use Rattle.std.specs.Prelude.{◌≡◌, ◌<◌, length};
-ghost use Rattle.rules.specs.Build.{addAll};
+ghost use Rattle.rules.specs.Build.{add_all};
 ghost use Rattle.checks.specs.Answers.{job_of};
-ghost use Rattle.contours.specs.Ground.{groundIn, meshAt};
-ghost use Rattle.contours.specs.Gathering.{contourIn, NextReady, nextMesh, nextAnswer, GatherReady, gatheredOf, meshOf};
+ghost use Rattle.contours.specs.Ground.{ground_in, mesh_at};
+ghost use Rattle.contours.specs.Gathering.{contour_in, NextReady, next_mesh, next_answer, GatherReady, gathered_of, mesh_of};
 
 use crate::add::{Added, add_contour};
 use crate::ground::{Contour, Ground};
@@ -23,7 +23,7 @@ pub enum Gathered {
 // Contour c of a job, which begins at the vertex `first`.
 fn contour_at(lengths: &[u32], regions: &[u16], codes: &[u8], c: usize, first: usize) -> Contour
     requires { (c < length lengths.now) × (c < length regions.now) × (c < length codes.now) }
-    ensures { result ≡ contourIn lengths.now regions.now codes.now c first }
+    ensures { result ≡ contour_in lengths.now regions.now codes.now c first }
 {
     Contour {
         first: first,
@@ -44,8 +44,8 @@ fn add_next(
     c: Contour,
 ) -> Added
     requires { NextReady work.old numbers.now g nv np nvp c }
-    ensures answer { result ≡ nextAnswer nvp numbers.now c (meshAt work.old g nv np) }
-    ensures words { work.new ≡ groundIn (length work.old) g (nextMesh nvp numbers.now c (meshAt work.old g nv np)) }
+    ensures answer { result ≡ next_answer nvp numbers.now c (mesh_at work.old g nv np) }
+    ensures words { work.new ≡ ground_in (length work.old) g (next_mesh nvp numbers.now c (mesh_at work.old g nv np)) }
 {
     if c.n < LEAST_VERTICES {
         return Added::To(nv, np);
@@ -64,8 +64,8 @@ pub fn add_contours(
     numbers: &[u16],
 ) -> Gathered
     requires { GatherReady work.old g (job_of nvp 0 0 0 lengths.now regions.now codes.now numbers.now) }
-    ensures answer { result ≡ gatheredOf (addAll (job_of nvp 0 0 0 lengths.now regions.now codes.now numbers.now)) }
-    ensures words { work.new ≡ groundIn (length work.old) g (meshOf (addAll (job_of nvp 0 0 0 lengths.now regions.now codes.now numbers.now))) }
+    ensures answer { result ≡ gathered_of (add_all (job_of nvp 0 0 0 lengths.now regions.now codes.now numbers.now)) }
+    ensures words { work.new ≡ ground_in (length work.old) g (mesh_of (add_all (job_of nvp 0 0 0 lengths.now regions.now codes.now numbers.now))) }
 {
     let mut nv = 0;
     let mut np = 0;

@@ -1,10 +1,10 @@
 // The triangles of a contour become polygons, and are merged.
 ghost use Rattle.std.specs.Prelude.{◌≡◌, [], ◌∷◌, map, ◌+◌, ◌≤◌, ◌<◌, length};
 ghost use Rattle.mem.specs.Slice.{view, splice};
-ghost use Rattle.rules.specs.Build.{contourTriangle};
-ghost use Rattle.records.specs.Layout.{polygonRecords};
+ghost use Rattle.rules.specs.Build.{contour_triangle};
+ghost use Rattle.records.specs.Layout.{polygon_records};
 ghost use Rattle.records.specs.Values.{Loaded};
-ghost use Rattle.holes.specs.Fill.{trianglesAt};
+ghost use Rattle.holes.specs.Fill.{triangles_at};
 ghost use Rattle.contours.specs.Shaping.{ShapeReady, MeshReady, MeshedOver};
 
 use crate::ground::Contour;
@@ -24,7 +24,7 @@ fn contour_triangle(
     code: u8,
 ) -> Poly
     requires { (ko + n ≤ length work.now) × (i < n) × (j < n) × (k < n) }
-    ensures { Loaded (contourTriangle (view work.now ko n) region code (i ∷ j ∷ k ∷ [])) result }
+    ensures { Loaded (contour_triangle (view work.now ko n) region code (i ∷ j ∷ k ∷ [])) result }
 {
     Poly {
         corners: [
@@ -59,7 +59,7 @@ pub fn shape_contour(
     code: u8,
 )
     requires { ShapeReady work.old at ko n to k }
-    ensures { work.new ≡ splice work.old at (polygonRecords (map (contourTriangle (view work.old ko n) region code) (trianglesAt work.old to k))) }
+    ensures { work.new ≡ splice work.old at (polygon_records (map (contour_triangle (view work.old ko n) region code) (triangles_at work.old to k))) }
 {
     let mut i = 0;
     while i < k {

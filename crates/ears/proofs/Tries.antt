@@ -7,24 +7,24 @@ use Rattle.rules.specs.declared.Point.{Point}
 use Rattle.rules.specs.declared.Ear.{Ear}
 use Rattle.rules.specs.declared.Kind.{Kind}
 use Rattle.rules.specs.declared.Kind.TheVariants.{Strict, Loose}
-use Rattle.rules.specs.Ears.{isCuttable, keyFrom, better, tryEar, leastEar, findEar}
+use Rattle.rules.specs.Ears.{is_cuttable, key_from, better, try_ear, least_ear, find_ear}
 
 -- the ear at i is tried where it may be cut, and else passed
-module _ {ok : Bool} (kind : Kind) (ps : List Point) (ws : List ℕ) (i : ℕ) (e : Ear) (p : ok ≡ isCuttable kind ps ws i) where
-  pub tried : {k : ℕ} {f : Ear} → ok ≡ true → k ≡ keyFrom kind ps ws i → f ≡ better true k i e → f ≡ tryEar kind ps ws i e
-  unfolding tryEar
+module _ {ok : Bool} (kind : Kind) (ps : List Point) (ws : List ℕ) (i : ℕ) (e : Ear) (p : ok ≡ is_cuttable kind ps ws i) where
+  pub tried : {k : ℕ} {f : Ear} → ok ≡ true → k ≡ key_from kind ps ws i → f ≡ better true k i e → f ≡ try_ear kind ps ws i e
+  unfolding try_ear
   tried q h g = rw (← p, q, ← h) g
 
-  pub passed : ok ≡ false → e ≡ tryEar kind ps ws i e
-  unfolding tryEar better
+  pub passed : ok ≡ false → e ≡ try_ear kind ps ws i e
+  unfolding try_ear better
   passed q = rw (← p, q)
 
 -- the ear that is found is a marked one, or else a loose one
-module _ (ps : List Point) (ws : List ℕ) {e : Ear} (p : e ≡ leastEar Strict ps ws) where
-  pub found-marked : e.any ≡ true → e ≡ findEar ps ws
-  unfolding findEar
-  found-marked q = let t : (leastEar Strict ps ws).any ≡ true = ap (λ (x : Ear). x.any) (sym p) ∙ q in rw (t, findEar) p
+module _ (ps : List Point) (ws : List ℕ) {e : Ear} (p : e ≡ least_ear Strict ps ws) where
+  pub found_marked : e.any ≡ true → e ≡ find_ear ps ws
+  unfolding find_ear
+  found_marked q = let t : (least_ear Strict ps ws).any ≡ true = ap (λ (x : Ear). x.any) (sym p) ∙ q in rw (t, find_ear) p
 
-  pub found-loose : {f : Ear} → e.any ≡ false → f ≡ leastEar Loose ps ws → f ≡ findEar ps ws
-  unfolding findEar
-  found-loose q h = let t : (leastEar Strict ps ws).any ≡ false = ap (λ (x : Ear). x.any) (sym p) ∙ q in rw (t, findEar) h
+  pub found_loose : {f : Ear} → e.any ≡ false → f ≡ least_ear Loose ps ws → f ≡ find_ear ps ws
+  unfolding find_ear
+  found_loose q h = let t : (least_ear Strict ps ws).any ≡ false = ap (λ (x : Ear). x.any) (sym p) ∙ q in rw (t, find_ear) h

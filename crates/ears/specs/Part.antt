@@ -4,14 +4,14 @@ use Rattle.mem.specs.Packed.{packed}
 use Rattle.mem.specs.Slice.{view}
 use Rattle.rules.specs.declared.Point.{Point}
 use Rattle.rules.specs.Ears.{Ears, done, stuck}
-use Rattle.plane.specs.Points.{pointsIn, GridWords}
+use Rattle.plane.specs.Points.{points_in, GridWords}
 use Rattle.ears.specs.Ring.{Ring}
 use Rattle.ears.specs.declared.cut.Triangulation.{Triangulation}
 use Rattle.ears.specs.declared.cut.Triangulation.TheVariants.{Done, Stuck}
 
 -- the points of a part
 abbrev pub points_of : ℕ → List ℕ → List Point
-points_of n w = pointsIn (take (n * 2) w)
+points_of n w = points_in (take (n * 2) w)
 
 -- a part for n points, with its points laid in; what its other words hold doesn't matter
 pub record Laid (n : ℕ) (w : List ℕ) : Type 0 where

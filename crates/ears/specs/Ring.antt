@@ -2,9 +2,9 @@
 use Rattle.std.specs.Prelude.{List, ◌≡◌, Bool, not, ◌&&◌, ℕ, ◌/◌, ◌<◌, length, get_or}
 use Rattle.rules.specs.declared.Point.{Point}
 use Rattle.rules.specs.declared.Kind.{Kind}
-use Rattle.rules.specs.Diagonal.{atEnds, sharesEnd, hits}
-use Rattle.rules.specs.Ears.{index_of, pointAt}
-use Rattle.plane.specs.Points.{pointsIn, GridWords}
+use Rattle.rules.specs.Diagonal.{at_ends, shares_end, hits}
+use Rattle.rules.specs.Ears.{index_of, point_at}
+use Rattle.plane.specs.Points.{points_in, GridWords}
 
 -- the points' words are coordinates, and each index word names one of the points
 pub record Ring (pts ix : List ℕ) : Type 0 where
@@ -13,11 +13,11 @@ pub record Ring (pts ix : List ℕ) : Type 0 where
 
 -- a and b stand at the places i and j
 pub record Ends (pts ix : List ℕ) (i j : ℕ) (a b : Point) : Type 0 where
-  pub i-in : i < length ix
-  pub j-in : j < length ix
-  pub is-a : a ≡ pointAt (pointsIn pts) ix i
-  pub is_b : b ≡ pointAt (pointsIn pts) ix j
+  pub i_in : i < length ix
+  pub j_in : j < length ix
+  pub is_a : a ≡ point_at (points_in pts) ix i
+  pub is_b : b ≡ point_at (points_in pts) ix j
 
 -- the side from place k, where c stands, to place l, where d stands, stops the diagonal from place i, where a stands, to place j, where b stands
-unfoldable pub sideStops : Kind → ℕ → ℕ → Point → Point → ℕ → ℕ → Point → Point → Bool
-sideStops kind i j a b k l c d = not (atEnds i j k l) && (not (sharesEnd a b c d) && hits kind a b c d)
+unfoldable pub side_stops : Kind → ℕ → ℕ → Point → Point → ℕ → ℕ → Point → Point → Bool
+side_stops kind i j a b k l c d = not (at_ends i j k l) && (not (shares_end a b c d) && hits kind a b c d)

@@ -2,13 +2,13 @@
 ghost use Rattle.std.specs.Prelude.{◌≡◌, [], ◌∷◌, ◌++◌, ◌+◌, ◌-◌, ◌*◌, ◌≤◌, ◌<◌, length, take};
 ghost use Rattle.mem.specs.Slice.{view, splice};
 ghost use Rattle.rules.specs.Lists.{without};
-ghost use Rattle.rules.specs.Diagonal.{isDiagonal};
-ghost use Rattle.rules.specs.Ears.{indices, pointAt, remark, markAll, findEar, triangleAt, remarkGap, cutEar};
+ghost use Rattle.rules.specs.Diagonal.{is_diagonal};
+ghost use Rattle.rules.specs.Ears.{indices, point_at, remark, mark_all, find_ear, triangle_at, remark_gap, cut_ear};
 ghost use Rattle.rules.specs.declared.Kind.TheVariants.{Strict};
 ghost use Rattle.rules.specs.Ears as Rules;
-ghost use Rattle.plane.specs.Points.{pointsIn};
+ghost use Rattle.plane.specs.Points.{points_in};
 ghost use Rattle.ears.specs.Part.{points_of, Laid, answer_of, cut_in, Ready};
-ghost use Rattle.ears.specs.Turn.{cutOnce, AllCut};
+ghost use Rattle.ears.specs.Turn.{cut_once, AllCut};
 
 use crate::diagonal::is_diagonal;
 use crate::index::{index_of, with_mark};
@@ -54,7 +54,7 @@ fn close_gap(ix: &mut [u32], k: usize)
 // Whether place i to place j is a strict diagonal of the m words that stand behind the a words of points.
 fn diagonal_in(w: &[u32], a: usize, m: usize, i: usize, j: usize) -> bool
     requires { Ready a m w.now × (i < m) × (j < m) }
-    ensures { result ≡ isDiagonal Strict (pointAt (pointsIn (take a w.now)) (view w.now a m)) m i j }
+    ensures { result ≡ is_diagonal Strict (point_at (points_in (take a w.now)) (view w.now a m)) m i j }
 {
     let e = a + m;
     is_diagonal(Kind::Strict, &w[..a], &w[a..e], i, j)
@@ -63,7 +63,7 @@ fn diagonal_in(w: &[u32], a: usize, m: usize, i: usize, j: usize) -> bool
 // Place k is marked if place i to place j is a strict diagonal, and else unmarked.
 fn remark_in(w: &mut [u32], a: usize, m: usize, i: usize, j: usize, k: usize)
     requires { Ready a m w.old × (i < m) × (j < m) × (k < m) }
-    ensures { w.new ≡ splice w.old a (remark (pointsIn (take a w.old)) i j k (view w.old a m)) }
+    ensures { w.new ≡ splice w.old a (remark (points_in (take a w.old)) i j k (view w.old a m)) }
 {
     let on = diagonal_in(&w[..], a, m, i, j);
     let at = a + k;
@@ -73,7 +73,7 @@ fn remark_in(w: &mut [u32], a: usize, m: usize, i: usize, j: usize, k: usize)
 // At the start i+1 is marked if i to i+2 is a strict diagonal.
 fn mark_all(w: &mut [u32], a: usize, m: usize)
     requires { Ready a m w.old }
-    ensures { w.new ≡ splice w.old a (markAll (pointsIn (take a w.old)) (view w.old a m)) }
+    ensures { w.new ≡ splice w.old a (mark_all (points_in (take a w.old)) (view w.old a m)) }
 {
     let mut i = 0;
     while i < m {
@@ -86,7 +86,7 @@ fn mark_all(w: &mut [u32], a: usize, m: usize)
 // The two places beside a gap are marked or unmarked afresh: i before it, then i1 after it.
 fn remark_gap(w: &mut [u32], a: usize, m: usize, i: usize, i1: usize)
     requires { Ready a m w.old × (i < m) × (i1 < m) }
-    ensures { w.new ≡ splice w.old a (remarkGap (pointsIn (take a w.old)) i i1 (view w.old a m)) }
+    ensures { w.new ≡ splice w.old a (remark_gap (points_in (take a w.old)) i i1 (view w.old a m)) }
 {
     remark_in(&mut *w, a, m, prev(i, m), i1, i);
     remark_in(w, a, m, i, next(i1, m), i1);
@@ -95,7 +95,7 @@ fn remark_gap(w: &mut [u32], a: usize, m: usize, i: usize, i1: usize)
 // The vertex after place i is cut.
 fn cut_ear(w: &mut [u32], a: usize, m: usize, i: usize)
     requires { Ready a m w.old × (i < m) × (1 < m) }
-    ensures { w.new ≡ splice w.old a (cutEar (pointsIn (take a w.old)) i (view w.old a m) ++ (0 ∷ [])) }
+    ensures { w.new ≡ splice w.old a (cut_ear (points_in (take a w.old)) i (view w.old a m) ++ (0 ∷ [])) }
 {
     let e = a + m;
     let k = next(i, m);
@@ -108,7 +108,7 @@ fn cut_ear(w: &mut [u32], a: usize, m: usize, i: usize)
 // The triangle at place i goes to the words from t on.
 fn put_triangle(w: &mut [u32], a: usize, m: usize, i: usize, t: usize)
     requires { (i < m) × (a + m ≤ t) × (t + 3 ≤ length w.old) }
-    ensures { w.new ≡ splice w.old t (triangleAt (view w.old a m) i) }
+    ensures { w.new ≡ splice w.old t (triangle_at (view w.old a m) i) }
 {
     let i1 = next(i, m);
     let i2 = next(i1, m);
@@ -123,7 +123,7 @@ fn put_triangle(w: &mut [u32], a: usize, m: usize, i: usize, t: usize)
 // The ear of the m words behind the points.
 fn ear_in(w: &[u32], a: usize, m: usize) -> Ear
     requires { Ready a m w.now }
-    ensures { result ≡ findEar (pointsIn (take a w.now)) (view w.now a m) }
+    ensures { result ≡ find_ear (points_in (take a w.now)) (view w.now a m) }
 {
     let e = a + m;
     find_ear(&w[..a], &w[a..e])
@@ -133,8 +133,8 @@ fn ear_in(w: &[u32], a: usize, m: usize) -> Ear
 // is no ear.
 fn cut_one(w: &mut [u32], a: usize, m: usize, t: usize) -> bool
     requires { Ready a m w.old × (1 < m) × (a + m ≤ t) × (t + 3 ≤ length w.old) }
-    ensures found { result ≡ (findEar (pointsIn (take a w.old)) (view w.old a m)).any }
-    ensures words { w.new ≡ cutOnce a m t w.old }
+    ensures found { result ≡ (find_ear (points_in (take a w.old)) (view w.old a m)).any }
+    ensures words { w.new ≡ cut_once a m t w.old }
 {
     let ear = ear_in(&w[..], a, m);
     if ear.any {

@@ -2,11 +2,11 @@
 ghost use Rattle.std.specs.Prelude.{◌≡◌, not, ◌&&◌, ◌<◌, ltb, eqb, length};
 ghost use Rattle.rules.specs.Lists as Lists;
 ghost use Rattle.rules.specs.Plane.{InGrid};
-ghost use Rattle.rules.specs.Diagonal.{leftBy, inCone, atEnds, sharesEnd, hits, isBlocked, isDiagonal};
-ghost use Rattle.rules.specs.Ears.{pointAt};
-ghost use Rattle.plane.specs.Points.{pointsIn};
+ghost use Rattle.rules.specs.Diagonal.{left_by, in_cone, at_ends, shares_end, hits, is_blocked, is_diagonal};
+ghost use Rattle.rules.specs.Ears.{point_at};
+ghost use Rattle.plane.specs.Points.{points_in};
 ghost use Rattle.plane.specs.Boxes.{bounds_of};
-ghost use Rattle.ears.specs.Ring.{Ring, Ends, sideStops};
+ghost use Rattle.ears.specs.Ring.{Ring, Ends, side_stops};
 
 use crate::index::index_of;
 use plane::bounds::{Bounds, are_apart, bounds_of};
@@ -19,7 +19,7 @@ use rules::{Kind, Point};
 // Left of the line from a to b; for the loose diagonal also on it.
 fn left_by(kind: Kind, a: Point, b: Point, c: Point) -> bool
     requires { InGrid a × InGrid b × InGrid c }
-    ensures { result ≡ leftBy kind a b c }
+    ensures { result ≡ left_by kind a b c }
 {
     match kind {
         Kind::Strict => is_left(a, b, c),
@@ -30,7 +30,7 @@ fn left_by(kind: Kind, a: Point, b: Point, c: Point) -> bool
 // Whether j lies in the cone at i, p being before i and q after it.
 pub fn in_cone(kind: Kind, p: Point, i: Point, q: Point, j: Point) -> bool
     requires { InGrid p × InGrid i × InGrid q × InGrid j }
-    ensures { result ≡ inCone kind p i q j }
+    ensures { result ≡ in_cone kind p i q j }
 {
     if is_left_on(p, i, q) {
         left_by(kind, i, j, p) & left_by(kind, j, i, q)
@@ -41,14 +41,14 @@ pub fn in_cone(kind: Kind, p: Point, i: Point, q: Point, j: Point) -> bool
 
 // Whether the side from place k to place l is at place i or j.
 fn at_ends(i: usize, j: usize, k: usize, l: usize) -> bool
-    ensures { result ≡ atEnds i j k l }
+    ensures { result ≡ at_ends i j k l }
 {
     (k == i) | (l == i) | (k == j) | (l == j)
 }
 
 // Whether the side c d has an end where the diagonal a b has one.
 fn shares_end(a: Point, b: Point, c: Point, d: Point) -> bool
-    ensures { result ≡ sharesEnd a b c d }
+    ensures { result ≡ shares_end a b c d }
 {
     vequal(a, c) | vequal(b, c) | vequal(a, d) | vequal(b, d)
 }
@@ -67,7 +67,7 @@ fn is_hit(kind: Kind, a: Point, b: Point, c: Point, d: Point) -> bool
 // The point whose index stands in the word at place k.
 pub fn corner(pts: &[u32], ix: &[u32], k: usize) -> Point
     requires { Ring pts.now ix.now × (k < length ix.now) }
-    ensures { (result ≡ pointAt (pointsIn pts.now) ix.now k) × InGrid result }
+    ensures { (result ≡ point_at (points_in pts.now) ix.now k) × InGrid result }
 {
     let v = index_of(ix[k]) as usize;
     point_at(pts, v)
@@ -88,7 +88,7 @@ fn does_stop(
     d: Point,
 ) -> bool
     requires { InGrid a × InGrid b × InGrid c × InGrid d × (t ≡ bounds_of a b) }
-    ensures { result ≡ sideStops kind i j a b k l c d }
+    ensures { result ≡ side_stops kind i j a b k l c d }
 {
     if are_apart(t, c, d) {
         return false;
@@ -117,7 +117,7 @@ fn leaves_no_side(i: usize, j: usize, n: usize) -> bool
 // is made once, and each turn reads one point: c stands at place k.
 fn is_clear(kind: Kind, pts: &[u32], ix: &[u32], i: usize, j: usize, a: Point, b: Point) -> bool
     requires { Ring pts.now ix.now × Ends pts.now ix.now i j a b }
-    ensures { result ≡ not (isBlocked kind (pointAt (pointsIn pts.now) ix.now) (length ix.now) i j) }
+    ensures { result ≡ not (is_blocked kind (point_at (points_in pts.now) ix.now) (length ix.now) i j) }
 {
     let n = ix.len();
     if leaves_no_side(i, j, n) {
@@ -144,7 +144,7 @@ fn is_clear(kind: Kind, pts: &[u32], ix: &[u32], i: usize, j: usize, a: Point, b
 // Whether place i to place j is a diagonal: Rust's `is_diagonal` and `is_diagonal_loose`.
 pub fn is_diagonal(kind: Kind, pts: &[u32], ix: &[u32], i: usize, j: usize) -> bool
     requires { Ring pts.now ix.now × (i < length ix.now) × (j < length ix.now) }
-    ensures { result ≡ isDiagonal kind (pointAt (pointsIn pts.now) ix.now) (length ix.now) i j }
+    ensures { result ≡ is_diagonal kind (point_at (points_in pts.now) ix.now) (length ix.now) i j }
 {
     let n = ix.len();
     let p = corner(pts, ix, prev(i, n));

@@ -1,8 +1,8 @@
 // R2: the ear with the least key, the lowest i on ties.
 ghost use Rattle.std.specs.Prelude.{◌≡◌, ◌<◌, length};
 ghost use Rattle.rules.specs.Plane.{InGrid};
-ghost use Rattle.rules.specs.Ears.{key_of, isCuttable, keyFrom, better, leastEar, findEar};
-ghost use Rattle.plane.specs.Points.{pointsIn};
+ghost use Rattle.rules.specs.Ears.{key_of, is_cuttable, key_from, better, least_ear, find_ear};
+ghost use Rattle.plane.specs.Points.{points_in};
 ghost use Rattle.ears.specs.Ring.{Ring};
 
 use crate::diagonal::{corner, is_diagonal};
@@ -22,7 +22,7 @@ pub fn key_of(a: Point, b: Point) -> u32
 // Whether the vertex after place i may be cut.
 fn is_cuttable(kind: Kind, pts: &[u32], ix: &[u32], i: usize) -> bool
     requires { Ring pts.now ix.now × (i < length ix.now) }
-    ensures { result ≡ isCuttable kind (pointsIn pts.now) ix.now i }
+    ensures { result ≡ is_cuttable kind (points_in pts.now) ix.now i }
 {
     let n = ix.len();
     let i1 = next(i, n);
@@ -35,7 +35,7 @@ fn is_cuttable(kind: Kind, pts: &[u32], ix: &[u32], i: usize) -> bool
 // The key of the ear at place i: from i to i+2, and loosely from i to i+3.
 fn key_from(kind: Kind, pts: &[u32], ix: &[u32], i: usize) -> u32
     requires { Ring pts.now ix.now × (i < length ix.now) }
-    ensures { result ≡ keyFrom kind (pointsIn pts.now) ix.now i }
+    ensures { result ≡ key_from kind (points_in pts.now) ix.now i }
 {
     let n = ix.len();
     let i2 = next(next(i, n), n);
@@ -64,7 +64,7 @@ fn better_of(ok: bool, key: u32, i: usize, best: Ear) -> Ear
 // The least key among all places.
 fn least_ear(kind: Kind, pts: &[u32], ix: &[u32]) -> Ear
     requires { Ring pts.now ix.now }
-    ensures { result ≡ leastEar kind (pointsIn pts.now) ix.now }
+    ensures { result ≡ least_ear kind (points_in pts.now) ix.now }
 {
     let n = ix.len();
     let mut best = Ear {
@@ -85,7 +85,7 @@ fn least_ear(kind: Kind, pts: &[u32], ix: &[u32]) -> Ear
 // A marked ear; if none is marked, a loose one.
 pub fn find_ear(pts: &[u32], ix: &[u32]) -> Ear
     requires { Ring pts.now ix.now }
-    ensures { result ≡ findEar (pointsIn pts.now) ix.now }
+    ensures { result ≡ find_ear (points_in pts.now) ix.now }
 {
     let marked = least_ear(Kind::Strict, pts, ix);
     if marked.any {

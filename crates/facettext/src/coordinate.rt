@@ -1,24 +1,24 @@
 // A coordinate's pattern: its parts, and its ten-thousandths of a millimetre.
 ghost use Rattle.std.specs.Prelude.{◌≡◌, true, ◌^◌, ◌<◌};
-ghost use Rattle.rules.specs.StlText.{isNegative, isShown, exponentOf, significand, powerOf, tenThousandths};
+ghost use Rattle.rules.specs.StlText.{is_negative, is_shown, exponent_of, significand, power_of, ten_thousandths};
 
 // Whether it is below zero.
 pub fn is_negative(p: u32) -> bool
-    ensures { result ≡ isNegative p }
+    ensures { result ≡ is_negative p }
 {
     2147483648 <= p
 }
 
 // Its exponent.
 fn exponent_of(p: u32) -> usize
-    ensures { result ≡ exponentOf p }
+    ensures { result ≡ exponent_of p }
 {
     (p / 8388608 % 256) as usize
 }
 
 // Whether it is printed as a number: it is finite, and below 2 to the 50.
 pub fn is_shown(p: u32) -> bool
-    ensures { result ≡ isShown p }
+    ensures { result ≡ is_shown p }
 {
     exponent_of(p) < 177
 }
@@ -36,7 +36,7 @@ fn significand_of(p: u32) -> u64
 
 // The power of two that its significand counts, over 2 to the 150.
 fn power_of(p: u32) -> usize
-    ensures { result ≡ powerOf p }
+    ensures { result ≡ power_of p }
 {
     let e = exponent_of(p);
     if e == 0 {
@@ -61,8 +61,8 @@ fn two_to(n: usize) -> u64
 
 // Its ten-thousandths of a millimetre, the nearest number of them.
 pub fn ten_thousandths(p: u32) -> u64
-    requires { isShown p ≡ true }
-    ensures { result ≡ tenThousandths p }
+    requires { is_shown p ≡ true }
+    ensures { result ≡ ten_thousandths p }
 {
     let n = significand_of(p) * 10000;
     let e = power_of(p);

@@ -1,6 +1,6 @@
 // A coordinate is printed: as millimetres with four decimals, or by its bits.
 ghost use Rattle.std.specs.Prelude.{◌<◌, ◌≡◌};
-ghost use Rattle.rules.specs.StlText.{fourDigits, decimals, hexDigit, bitsText, signText, coordinateText};
+ghost use Rattle.rules.specs.StlText.{four_digits, decimals, hex_digit, bits_text, sign_text, coordinate_text};
 ghost use Rattle.lines.specs.Print.{Room, Printed};
 
 use crate::coordinate::{is_negative, is_shown, ten_thousandths};
@@ -9,8 +9,8 @@ use lines::digits::put_decimal;
 // Four digits.
 fn put_four(out: &mut [u8], at: usize, n: u64) -> usize
     requires n_bound { n < 10000 }
-    requires room { Room out.old (fourDigits n) at }
-    ensures { Printed (fourDigits n) out.old out.new at result }
+    requires room { Room out.old (four_digits n) at }
+    ensures { Printed (four_digits n) out.old out.new at result }
 {
     out[at] = b'0' + (n / 1000) as u8;
     out[at + 1] = b'0' + (n / 100 % 10) as u8;
@@ -32,7 +32,7 @@ fn put_decimals(out: &mut [u8], at: usize, n: u64) -> usize
 // A hex digit.
 fn hex_digit(d: u32) -> u8
     requires { d < 16 }
-    ensures { result ≡ hexDigit d }
+    ensures { result ≡ hex_digit d }
 {
     if d < 10 {
         return 48 + d as u8;
@@ -42,8 +42,8 @@ fn hex_digit(d: u32) -> u8
 
 // A pattern by its bits.
 fn put_bits(out: &mut [u8], at: usize, p: u32) -> usize
-    requires { Room out.old (bitsText p) at }
-    ensures { Printed (bitsText p) out.old out.new at result }
+    requires { Room out.old (bits_text p) at }
+    ensures { Printed (bits_text p) out.old out.new at result }
 {
     out[at] = b'#';
     let mut shift = 268435456u32;
@@ -58,8 +58,8 @@ fn put_bits(out: &mut [u8], at: usize, p: u32) -> usize
 
 // A minus sign if it is below zero.
 fn put_sign(out: &mut [u8], at: usize, p: u32) -> usize
-    requires { Room out.old (signText p) at }
-    ensures { Printed (signText p) out.old out.new at result }
+    requires { Room out.old (sign_text p) at }
+    ensures { Printed (sign_text p) out.old out.new at result }
 {
     if is_negative(p) {
         out[at] = b'-';
@@ -70,8 +70,8 @@ fn put_sign(out: &mut [u8], at: usize, p: u32) -> usize
 
 // A coordinate.
 pub fn put_coordinate(out: &mut [u8], at: usize, p: u32) -> usize
-    requires { Room out.old (coordinateText p) at }
-    ensures { Printed (coordinateText p) out.old out.new at result }
+    requires { Room out.old (coordinate_text p) at }
+    ensures { Printed (coordinate_text p) out.old out.new at result }
 {
     if is_shown(p) {
         let a = put_sign(out, at, p);

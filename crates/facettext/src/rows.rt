@@ -2,9 +2,9 @@
 ghost use Rattle.std.specs.Prelude.{◌+◌, ◌*◌, ◌≤◌, ◌∷◌, ◌≡◌, length};
 ghost use Rattle.mem.specs.Packed.{packed};
 ghost use Rattle.mem.specs.Slice.{view};
-ghost use Rattle.rules.specs.Lines.{tabByte};
-ghost use Rattle.rules.specs.Stl.{countIn, facetIn, facetsIn};
-ghost use Rattle.rules.specs.StlText.{coordinateText, facetLine, facetLines};
+ghost use Rattle.rules.specs.Lines.{tab_byte};
+ghost use Rattle.rules.specs.Stl.{count_in, facet_in, facets_in};
+ghost use Rattle.rules.specs.StlText.{coordinate_text, facet_line, facet_lines};
 ghost use Rattle.lines.specs.Print.{Room, Printed};
 
 use crate::number::put_coordinate;
@@ -13,8 +13,8 @@ use stl::header::{FACET_BYTES, FRONT_BYTES};
 
 // A coordinate with its tab in front.
 fn put_next(out: &mut [u8], at: usize, p: u32) -> usize
-    requires { Room out.old (tabByte ∷ coordinateText p) at }
-    ensures { Printed (tabByte ∷ coordinateText p) out.old out.new at result }
+    requires { Room out.old (tab_byte ∷ coordinate_text p) at }
+    ensures { Printed (tab_byte ∷ coordinate_text p) out.old out.new at result }
 {
     out[at] = b'\t';
     put_coordinate(out, at + 1, p)
@@ -22,8 +22,8 @@ fn put_next(out: &mut [u8], at: usize, p: u32) -> usize
 
 // Coordinates, each with its tab in front.
 fn put_others(out: &mut [u8], at: usize, ps: &[u32]) -> usize
-    requires { Room out.old (packed (λ p. tabByte ∷ coordinateText p) ps.now) at }
-    ensures { Printed (packed (λ p. tabByte ∷ coordinateText p) ps.now) out.old out.new at result }
+    requires { Room out.old (packed (λ p. tab_byte ∷ coordinate_text p) ps.now) at }
+    ensures { Printed (packed (λ p. tab_byte ∷ coordinate_text p) ps.now) out.old out.new at result }
 {
     let mut to = at;
     let mut i = 0;
@@ -37,8 +37,8 @@ fn put_others(out: &mut [u8], at: usize, ps: &[u32]) -> usize
 // The line of a facet: its nine coordinates, parted by tabs.
 fn put_facet_line(out: &mut [u8], at: usize, f: &[u32]) -> usize
     requires f_len { length f.now ≡ 9 }
-    requires room { Room out.old (facetLine f.now) at }
-    ensures { Printed (facetLine f.now) out.old out.new at result }
+    requires room { Room out.old (facet_line f.now) at }
+    ensures { Printed (facet_line f.now) out.old out.new at result }
 {
     let a = put_coordinate(out, at, f[0]);
     let e = put_others(out, a, &f[1..]);
@@ -49,8 +49,8 @@ fn put_facet_line(out: &mut [u8], at: usize, f: &[u32]) -> usize
 // The line of the facet whose bytes begin at `from`.
 fn put_facet(out: &mut [u8], at: usize, file: &[u8], from: usize) -> usize
     requires from_in_bounds { from + 50 ≤ length file.now }
-    requires room { Room out.old (facetLine (facetIn (view file.now from 50))) at }
-    ensures { Printed (facetLine (facetIn (view file.now from 50))) out.old out.new at result }
+    requires room { Room out.old (facet_line (facet_in (view file.now from 50))) at }
+    ensures { Printed (facet_line (facet_in (view file.now from 50))) out.old out.new at result }
 {
     let mut words = [0u32; 9];
     get_facet(file, from, &mut words, 0);
@@ -59,10 +59,10 @@ fn put_facet(out: &mut [u8], at: usize, file: &[u8], from: usize) -> usize
 
 // The lines of all n facets of a file.
 pub fn put_facet_lines(out: &mut [u8], at: usize, file: &[u8], n: usize) -> usize
-    requires n_value { n ≡ countIn file.now }
+    requires n_value { n ≡ count_in file.now }
     requires n_in_bounds { 84 + n * 50 ≤ length file.now }
-    requires room { Room out.old (facetLines (facetsIn file.now)) at }
-    ensures { Printed (facetLines (facetsIn file.now)) out.old out.new at result }
+    requires room { Room out.old (facet_lines (facets_in file.now)) at }
+    ensures { Printed (facet_lines (facets_in file.now)) out.old out.new at result }
 {
     let mut to = at;
     let mut k = 0;

@@ -1,7 +1,7 @@
 // A file becomes a text.
 ghost use Rattle.std.specs.Prelude.{◌≤◌, ◌≡◌, true, length, take};
-ghost use Rattle.rules.specs.Stl.{facetsRead, facetsIn, rightLength};
-ghost use Rattle.rules.specs.StlText.{readingText, facetsText};
+ghost use Rattle.rules.specs.Stl.{facets_read, facets_in, right_length};
+ghost use Rattle.rules.specs.StlText.{reading_text, facets_text};
 ghost use Rattle.lines.specs.Print.{Room, Printed};
 
 use crate::rows::put_facet_lines;
@@ -16,9 +16,9 @@ use stl::zeros::first_wrong;
 
 // The text of a file that is good: its unit, how many facets it has, and their lines.
 fn put_good(file: &[u8], out: &mut [u8]) -> usize
-    requires file_value { rightLength file.now ≡ true }
-    requires room { Room out.old (readingText (facetsRead (facetsIn file.now))) 0 }
-    ensures { Printed (readingText (facetsRead (facetsIn file.now))) out.old out.new 0 result }
+    requires file_value { right_length file.now ≡ true }
+    requires room { Room out.old (reading_text (facets_read (facets_in file.now))) 0 }
+    ensures { Printed (reading_text (facets_read (facets_in file.now))) out.old out.new 0 result }
 {
     let n = get_u32(file, COUNT_AT) as usize;
     let a = put_text(out, 0, b"unit\tmm\n");
@@ -31,7 +31,7 @@ fn put_good(file: &[u8], out: &mut [u8]) -> usize
 // What is printed for an STL: its bytes in, and the text at the beginning of `out`. Any bytes may be handed in. The answer is the text's
 // length.
 pub fn facets_text(file: &[u8], out: &mut [u8; 272000]) -> usize
-    ensures printed { Printed (facetsText file.now) out.old out.new 0 result }
+    ensures printed { Printed (facets_text file.now) out.old out.new 0 result }
     ensures counted { (result ≤ length out.new) × (result ≡ length (take result out.new)) }
 {
     if file.len() > 65536 {

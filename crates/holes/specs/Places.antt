@@ -1,35 +1,35 @@
 -- Places as words in the buffer, read back from it; and what the answer of the cutting says. Laws for all who cut. Assumes nothing.
--- Key: `points-back`: places read back from their words; `was-done`, `was-stuck`.
+-- Key: `points_back`: places read back from their words; `was_done`, `was_stuck`.
 use Rattle.std.specs.Prelude.{◌≡◌, refl, List, [], ◌∷◌, ℕ, zero, suc, ◌+◌, ◌*◌, ◌/◌, ◌≤◌, ◌<◌, length, get_or, set}
 use Rattle.std.proofs.Common.{◌∙◌, arith, ext_get_or}
-use Rattle.mem.specs.Slice.{splice, setEach, stored-each}
-use Rattle.mem.specs.Tab.{tab, length-tab, getD-tab}
-use Rattle.mem.specs.Packed.{every_of, packed, length-packed}
+use Rattle.mem.specs.Slice.{splice, set_each, stored_each}
+use Rattle.mem.specs.Tab.{tab, length_tab, get_or_tab}
+use Rattle.mem.specs.Packed.{every_of, packed, length_packed}
 use Rattle.rules.specs.Plane.{InGrid, origin}
 use Rattle.rules.specs.Ears.{Ears, done, stuck}
 use Rattle.rules.specs.declared.Point.{Point}
 use Rattle.laws.specs.Lists.{All, all_head, all_tail}
-use Rattle.plane.specs.Points.{point_of, pointsIn}
+use Rattle.plane.specs.Points.{point_of, points_in}
 use Rattle.ears.specs.Part.{answer_of}
 use Rattle.ears.specs.declared.cut.Triangulation.TheVariants.{Done, Stuck}
-use Rattle.holes.specs.Fill.{placeWords}
+use Rattle.holes.specs.Fill.{place_words}
 
 -- ---- places and their words
 
-pub two : (p : Point) → length (placeWords p) ≡ 2
-unfolding placeWords
+pub two : (p : Point) → length (place_words p) ≡ 2
+unfolding place_words
 two p = refl
 
-pub put_two : (w : List ℕ) (at : ℕ) (p : Point) → set (set w at p.x) (at + 1) p.z ≡ splice w at (placeWords p)
-unfolding placeWords setEach
-put_two w at p = stored-each w at p.x (p.z ∷ [])
+pub put_two : (w : List ℕ) (at : ℕ) (p : Point) → set (set w at p.x) (at + 1) p.z ≡ splice w at (place_words p)
+unfolding place_words set_each
+put_two w at p = stored_each w at p.x (p.z ∷ [])
 
-pub placed-words : (ps : List Point) → length (packed placeWords ps) ≡ length ps * 2
-placed-words ps = length-packed placeWords 2 (λ p. Unit) origin (λ p t. two p) ps (every_of (λ p. Unit) origin ps (λ i. tt))
+pub placed_words : (ps : List Point) → length (packed place_words ps) ≡ length ps * 2
+placed_words ps = length_packed place_words 2 (λ p. Unit) origin (λ p t. two p) ps (every_of (λ p. Unit) origin ps (λ i. tt))
 
 -- places read back from their words
-place_at : (ps : List Point) (k : ℕ) → k < length ps → point_of (packed placeWords ps) k ≡ get_or ps k origin
-unfolding point_of packed placeWords
+place_at : (ps : List Point) (k : ℕ) → k < length ps → point_of (packed place_words ps) k ≡ get_or ps k origin
+unfolding point_of packed place_words
 place_at [] k h = absurd (omega arith)
 place_at (p ∷ ps) zero h = refl
 place_at (p ∷ ps) (suc k) h =
@@ -37,19 +37,19 @@ place_at (p ∷ ps) (suc k) h =
     let f : suc (suc (k * 2)) + 1 ≡ suc (suc (k * 2 + 1)) = omega arith in
     rw (e, f) (place_at ps k (omega arith))
 
-pub points-back : (ps : List Point) → pointsIn (packed placeWords ps) ≡ ps
-unfolding pointsIn
-points-back ps =
-    let n : length (packed placeWords ps) / 2 ≡ length ps = omega (arith, placed-words ps) in
-    rw n (ext_get_or origin (tab (point_of (packed placeWords ps)) (length ps)) ps (length-tab _ (length ps))
-    (λ k a. let h : k < length ps = rw length-tab at a in getD-tab _ (length ps) k origin h ∙ place_at ps k h))
+pub points_back : (ps : List Point) → points_in (packed place_words ps) ≡ ps
+unfolding points_in
+points_back ps =
+    let n : length (packed place_words ps) / 2 ≡ length ps = omega (arith, placed_words ps) in
+    rw n (ext_get_or origin (tab (point_of (packed place_words ps)) (length ps)) ps (length_tab _ (length ps))
+    (λ k a. let h : k < length ps = rw length_tab at a in get_or_tab _ (length ps) k origin h ∙ place_at ps k h))
 
-pub grid-words : (ps : List Point) → All InGrid ps → (k : ℕ) → get_or (packed placeWords ps) k 0 ≤ 32767
-unfolding packed placeWords
-grid-words [] a k = omega arith
-grid-words (p ∷ ps) a zero = (all_head a).x-small
-grid-words (p ∷ ps) a (suc zero) = (all_head a).z-small
-grid-words (p ∷ ps) a (suc (suc k)) = grid-words ps (all_tail a) k
+pub grid_words : (ps : List Point) → All InGrid ps → (k : ℕ) → get_or (packed place_words ps) k 0 ≤ 32767
+unfolding packed place_words
+grid_words [] a k = omega arith
+grid_words (p ∷ ps) a zero = (all_head a).x_small
+grid_words (p ∷ ps) a (suc zero) = (all_head a).z_small
+grid_words (p ∷ ps) a (suc (suc k)) = grid_words ps (all_tail a) k
 
 -- ---- the answer of the cutting
 
@@ -58,12 +58,12 @@ pub record WasDone (t : Ears) (k : ℕ) : Type 0 where
   pub is : t ≡ done ts
   pub count : k ≡ length ts
 
-pub was-done : (t : Ears) (k : ℕ) → Done k ≡ answer_of t → WasDone t k
+pub was_done : (t : Ears) (k : ℕ) → Done k ≡ answer_of t → WasDone t k
 unfolding answer_of
-was-done (done ts) k e = record { ts = ts; is = refl; count = cc }
-was-done (stuck j) k e = let z : ◌≡◌ {A = ℕ} 0 1 = cc in absurd (omega arith)
+was_done (done ts) k e = record { ts = ts; is = refl; count = cc }
+was_done (stuck j) k e = let z : ◌≡◌ {A = ℕ} 0 1 = cc in absurd (omega arith)
 
-pub was-stuck : (t : Ears) (k : ℕ) → Stuck k ≡ answer_of t → t ≡ stuck k
+pub was_stuck : (t : Ears) (k : ℕ) → Stuck k ≡ answer_of t → t ≡ stuck k
 unfolding answer_of
-was-stuck (done ts) k e = let z : ◌≡◌ {A = ℕ} 0 1 = cc in absurd (omega arith)
-was-stuck (stuck j) k e = cc
+was_stuck (done ts) k e = let z : ◌≡◌ {A = ℕ} 0 1 = cc in absurd (omega arith)
+was_stuck (stuck j) k e = cc

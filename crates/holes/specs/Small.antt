@@ -2,10 +2,10 @@
 use Rattle.std.specs.Prelude.{List, ℕ, ◌≤◌}
 use Rattle.std.proofs.Common.{arith}
 use Rattle.mem.specs.Packed.{Every}
-use Rattle.rules.specs.Mesh.{Polygon, noPolygon}
-use Rattle.laws.specs.Lists.{All, all-imp, every-of-all}
+use Rattle.rules.specs.Mesh.{Polygon, no_polygon}
+use Rattle.laws.specs.Lists.{All, all_imp, every_of_all}
 use Rattle.laws.specs.Merge.{Good, Below}
-use Rattle.records.specs.Layout.{mostCorners, Small}
+use Rattle.records.specs.Layout.{most_corners, Small}
 
-pub small-good : {k nvp : ℕ} {ps : List Polygon} → nvp ≤ mostCorners → All (Good (Below k) nvp) ps → Every Small noPolygon ps
-small-good {k} {nvp} h a = every-of-all Small noPolygon (omega arith) (all-imp (λ p (g : Good (Below k) nvp p). omega (arith, g.short, h)) a)
+pub small_good : {k nvp : ℕ} {ps : List Polygon} → nvp ≤ most_corners → All (Good (Below k) nvp) ps → Every Small no_polygon ps
+small_good {k} {nvp} h a = every_of_all Small no_polygon (omega arith) (all_imp (λ p (g : Good (Below k) nvp p). omega (arith, g.short, h)) a)

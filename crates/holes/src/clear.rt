@@ -1,10 +1,10 @@
 // The polygons that hold a vertex go, and in the others numbers above it drop by one.
 ghost use Rattle.std.specs.Prelude.{◌≡◌, map, ◌+◌};
 ghost use Rattle.mem.specs.Slice.{splice};
-ghost use Rattle.rules.specs.Removal.{droppedIn};
+ghost use Rattle.rules.specs.Removal.{dropped_in};
 ghost use Rattle.rules.specs.Removal as Rules;
-ghost use Rattle.records.specs.Layout.{polygonsAt, polygonRecords};
-ghost use Rattle.records.specs.Values.{cornersFrom, Stands};
+ghost use Rattle.records.specs.Layout.{polygons_at, polygon_records};
+ghost use Rattle.records.specs.Values.{corners_from, Stands};
 ghost use Rattle.holes.specs.Clear.{ClearReady, TakenTo, ClearedTo};
 
 use records::corner::count_from;
@@ -33,7 +33,7 @@ fn take_out(work: &mut [u32], o: usize, np: usize, rem: u32) -> usize
 // The corners of the polygon whose words start at `at` get the numbers that hold once the vertex has gone.
 fn drop_corners(work: &mut [u32], at: usize, rem: u32)
     requires { Stands work.old at }
-    ensures { work.new ≡ splice work.old (at + 3) (map (Rules.dropped rem) (cornersFrom work.old at)) }
+    ensures { work.new ≡ splice work.old (at + 3) (map (Rules.dropped rem) (corners_from work.old at)) }
 {
     let n = count_from(work, at);
     let mut j = 0;
@@ -46,7 +46,7 @@ fn drop_corners(work: &mut [u32], at: usize, rem: u32)
 // The n polygons at o get those numbers.
 fn drop_numbers(work: &mut [u32], o: usize, n: usize, rem: u32)
     requires { ClearReady work.old o n }
-    ensures { work.new ≡ splice work.old o (polygonRecords (map (droppedIn rem) (polygonsAt work.old o n))) }
+    ensures { work.new ≡ splice work.old o (polygon_records (map (dropped_in rem) (polygons_at work.old o n))) }
 {
     let mut i = 0;
     while i < n {

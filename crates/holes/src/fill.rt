@@ -2,11 +2,11 @@
 ghost use Rattle.std.specs.Prelude.{◌≡◌, ◌&&◌, cond, [], ◌∷◌, map, ◌+◌, ◌*◌, ◌≤◌, ◌<◌, eqb, length};
 ghost use Rattle.mem.specs.Slice.{splice};
 ghost use Rattle.mem.specs.Packed.{packed};
-ghost use Rattle.rules.specs.Removal.{places_of, holeTriangle};
-ghost use Rattle.records.specs.Layout.{pointSize, verticesAt, pointsAt, polygonRecords};
+ghost use Rattle.rules.specs.Removal.{places_of, hole_triangle};
+ghost use Rattle.records.specs.Layout.{point_size, vertices_at, points_at, polygon_records};
 ghost use Rattle.records.specs.Values.{Loaded};
-ghost use Rattle.holes.specs.Fill.{placeWords, LayReady, CutReady, cutWords, trianglesAt, ShapeReady, MeshReady, MeshedOver};
-ghost use Rattle.holes.specs.Fill.{FillReady, filledOf, filledIn};
+ghost use Rattle.holes.specs.Fill.{place_words, LayReady, CutReady, cut_words, triangles_at, ShapeReady, MeshReady, MeshedOver};
+ghost use Rattle.holes.specs.Fill.{FillReady, filled_of, filled_in};
 ghost use Rattle.rules.specs.Ears as Rules;
 ghost use Rattle.ears.specs.Part.{answer_of};
 
@@ -20,7 +20,7 @@ use words::fill::fill;
 // The places of the m points at q go to po, two words each.
 pub fn lay_points(work: &mut [u32], vo: usize, nv: usize, q: usize, m: usize, po: usize)
     requires { LayReady work.old vo nv q m po }
-    ensures { work.new ≡ splice work.old po (packed placeWords (places_of (verticesAt work.old vo nv) (pointsAt work.old q m))) }
+    ensures { work.new ≡ splice work.old po (packed place_words (places_of (vertices_at work.old vo nv) (points_at work.old q m))) }
 {
     let mut k = 0;
     while k < m {
@@ -42,8 +42,8 @@ pub fn cut_hole(
     po: usize,
 ) -> Triangulation
     requires { CutReady work.old vo nv q m po }
-    ensures answer { result ≡ answer_of (Rules.triangulate (places_of (verticesAt work.old vo nv) (pointsAt work.old q m))) }
-    ensures words { work.new ≡ splice work.old po (cutWords m (places_of (verticesAt work.old vo nv) (pointsAt work.old q m)) (Rules.triangulate (places_of (verticesAt work.old vo nv) (pointsAt work.old q m)))) }
+    ensures answer { result ≡ answer_of (Rules.triangulate (places_of (vertices_at work.old vo nv) (points_at work.old q m))) }
+    ensures words { work.new ≡ splice work.old po (cut_words m (places_of (vertices_at work.old vo nv) (points_at work.old q m)) (Rules.triangulate (places_of (vertices_at work.old vo nv) (points_at work.old q m)))) }
 {
     lay_points(work, vo, nv, q, m, po);
     let e = po + (m * 6 - 6);
@@ -59,8 +59,8 @@ fn agreed_region(a: u32, b: u32, c: u32) -> u32
 
 // The triangle of places i, j and k of the m points at q.
 fn hole_triangle(work: &[u32], q: usize, m: usize, i: usize, j: usize, k: usize) -> Poly
-    requires { (q + m * pointSize ≤ length work.now) × (i < m) × (j < m) × (k < m) }
-    ensures { Loaded (holeTriangle (pointsAt work.now q m) (i ∷ j ∷ k ∷ [])) result }
+    requires { (q + m * point_size ≤ length work.now) × (i < m) × (j < m) × (k < m) }
+    ensures { Loaded (hole_triangle (points_at work.now q m) (i ∷ j ∷ k ∷ [])) result }
 {
     let a = load_point(work, q, m, i);
     let b = load_point(work, q, m, j);
@@ -78,7 +78,7 @@ fn hole_triangle(work: &[u32], q: usize, m: usize, i: usize, j: usize, k: usize)
 // The k triangles whose words stand at `to` become polygons at `at`.
 pub fn shape_triangles(work: &mut [u32], at: usize, q: usize, m: usize, to: usize, k: usize)
     requires { ShapeReady work.old at q m to k }
-    ensures { work.new ≡ splice work.old at (polygonRecords (map (holeTriangle (pointsAt work.old q m)) (trianglesAt work.old to k))) }
+    ensures { work.new ≡ splice work.old at (polygon_records (map (hole_triangle (points_at work.old q m)) (triangles_at work.old to k))) }
 {
     let mut i = 0;
     while i < k {
@@ -136,8 +136,8 @@ pub fn fill_hole(
     nvp: usize,
 ) -> Filled
     requires { FillReady work.old vo nv at q m po nvp }
-    ensures answer { result ≡ filledOf (verticesAt work.old vo nv) nvp (pointsAt work.old q m) (Rules.triangulate (places_of (verticesAt work.old vo nv) (pointsAt work.old q m))) }
-    ensures words { work.new ≡ filledIn work.old (verticesAt work.old vo nv) nvp at po (pointsAt work.old q m) (Rules.triangulate (places_of (verticesAt work.old vo nv) (pointsAt work.old q m))) }
+    ensures answer { result ≡ filled_of (vertices_at work.old vo nv) nvp (points_at work.old q m) (Rules.triangulate (places_of (vertices_at work.old vo nv) (points_at work.old q m))) }
+    ensures words { work.new ≡ filled_in work.old (vertices_at work.old vo nv) nvp at po (points_at work.old q m) (Rules.triangulate (places_of (vertices_at work.old vo nv) (points_at work.old q m))) }
 {
     match cut_hole(work, vo, nv, q, m, po) {
         Triangulation::Done(k) => {

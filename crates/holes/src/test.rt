@@ -1,10 +1,10 @@
 // R5: whether a vertex can go.
 ghost use Rattle.std.specs.Prelude.{◌≡◌, ◌+◌, ◌≤◌, length};
 ghost use Rattle.rules.specs.Lists.{count};
-ghost use Rattle.rules.specs.Removal.{holds, otherEnd, neighboursIn, metOnce, canRemove};
-ghost use Rattle.records.specs.Layout.{mostCorners, polygonsAt};
-ghost use Rattle.records.specs.Values.{cornersOf, polygonOf};
-ghost use Rattle.holes.specs.Verdict.{Wrote, PushReady, Pushed, fewOpen, SidesReady, sidesUsed, TestReady, Tested};
+ghost use Rattle.rules.specs.Removal.{holds, other_end, neighbours_in, met_once, can_remove};
+ghost use Rattle.records.specs.Layout.{most_corners, polygons_at};
+ghost use Rattle.records.specs.Values.{corners_of, polygon_of};
+ghost use Rattle.holes.specs.Verdict.{Wrote, PushReady, Pushed, few_open, SidesReady, sides_used, TestReady, Tested};
 
 use records::point::POINT_SIZE;
 use records::polygon::{Poly, corner, load_at, side_end};
@@ -30,8 +30,8 @@ fn count_in(s: &[u32], v: u32) -> usize
 
 // How often a polygon holds the vertex.
 fn holds_in(p: Poly, rem: u32) -> usize
-    requires { p.n ≤ mostCorners }
-    ensures { result ≡ holds rem (polygonOf p) }
+    requires { p.n ≤ most_corners }
+    ensures { result ≡ holds rem (polygon_of p) }
 {
     let corners = p.corners;
     count_in(&corners[..p.n], rem)
@@ -40,8 +40,8 @@ fn holds_in(p: Poly, rem: u32) -> usize
 // The other end of the side from a to b is written at `at`, if the side touches the vertex. The result says how many
 // words that is.
 fn push_end(work: &mut [u32], at: usize, a: u32, b: u32, rem: u32) -> usize
-    requires { at + length (otherEnd rem a b) ≤ length work.old }
-    ensures { Wrote work.old at (otherEnd rem a b) result work.new }
+    requires { at + length (other_end rem a b) ≤ length work.old }
+    ensures { Wrote work.old at (other_end rem a b) result work.new }
 {
     if a == rem {
         work[at] = b;
@@ -56,8 +56,8 @@ fn push_end(work: &mut [u32], at: usize, a: u32, b: u32, rem: u32) -> usize
 
 // The neighbours of the vertex in one polygon are written at `at`.
 fn push_neighbours(work: &mut [u32], at: usize, p: Poly, rem: u32) -> usize
-    requires { (p.n ≤ mostCorners) × (at + length (neighboursIn rem (cornersOf p)) ≤ length work.old) }
-    ensures { Wrote work.old at (neighboursIn rem (cornersOf p)) result work.new }
+    requires { (p.n ≤ most_corners) × (at + length (neighbours_in rem (corners_of p)) ≤ length work.old) }
+    ensures { Wrote work.old at (neighbours_in rem (corners_of p)) result work.new }
 {
     let mut k: usize = 0;
     let mut j = 0;
@@ -97,7 +97,7 @@ fn push_all(work: &mut [u32], o: usize, np: usize, q: usize, rem: u32) -> Met
 
 // How many of the words stand there once.
 fn met_once(s: &[u32]) -> usize
-    ensures { result ≡ metOnce s.now }
+    ensures { result ≡ met_once s.now }
 {
     let mut c: usize = 0;
     let mut i = 0;
@@ -114,7 +114,7 @@ fn met_once(s: &[u32]) -> usize
 // used, and are zeros again.
 fn few_open(work: &mut [u32], o: usize, np: usize, q: usize, rem: u32) -> bool
     requires { PushReady work.old o np q }
-    ensures { Tested (fewOpen rem (polygonsAt work.old o np)) work.old result work.new }
+    ensures { Tested (few_open rem (polygons_at work.old o np)) work.old result work.new }
 {
     let met = push_all(work, o, np, q, rem);
     let e = q + met.n;
@@ -127,7 +127,7 @@ fn few_open(work: &mut [u32], o: usize, np: usize, q: usize, rem: u32) -> bool
 // are zeros again.
 fn sides_used(work: &mut [u32], o: usize, np: usize, q: usize, rem: u32) -> bool
     requires { SidesReady work.old o np q rem }
-    ensures { Tested (sidesUsed rem (polygonsAt work.old o np)) work.old result work.new }
+    ensures { Tested (sides_used rem (polygons_at work.old o np)) work.old result work.new }
 {
     let n = collect_sides(work, o, np, q, rem);
     if n <= 2 {
@@ -143,7 +143,7 @@ fn sides_used(work: &mut [u32], o: usize, np: usize, q: usize, rem: u32) -> bool
 // Whether the vertex can go, by the np polygons at o. The zeros from q on are used, and are zeros again.
 pub fn can_remove_vertex(work: &mut [u32], o: usize, np: usize, q: usize, rem: u32) -> bool
     requires { TestReady work.old o np q }
-    ensures { Tested (canRemove rem (polygonsAt work.old o np)) work.old result work.new }
+    ensures { Tested (can_remove rem (polygons_at work.old o np)) work.old result work.new }
 {
     if few_open(work, o, np, q, rem) {
         return sides_used(work, o, np, q, rem);

@@ -2,7 +2,7 @@
 ghost use Rattle.std.specs.Prelude.{◌≡◌, ◌++◌, ◌≤◌, ◌<◌, length, drop, replicate};
 ghost use Rattle.mem.specs.Slice.{splice};
 ghost use Rattle.rules.specs.Lists.{without};
-ghost use Rattle.records.specs.Layout.{vertexSize, verticesAt, marksAt, vertexRecords};
+ghost use Rattle.records.specs.Layout.{vertex_size, vertices_at, marks_at, vertex_records};
 ghost use Rattle.holes.specs.Clear.{TidyVertices};
 
 use records::vertex::VERTEX_SIZE;
@@ -11,8 +11,8 @@ use words::moves::move_down;
 
 // The first vertex of the part goes, those behind it move down by one, and zeros come in at the end.
 fn drop_first(part: &mut [u32])
-    requires { vertexSize ≤ length part.old }
-    ensures { part.new ≡ drop vertexSize part.old ++ replicate vertexSize 0 }
+    requires { vertex_size ≤ length part.old }
+    ensures { part.new ≡ drop vertex_size part.old ++ replicate vertex_size 0 }
 {
     let n = part.len() - VERTEX_SIZE;
     move_down(part, VERTEX_SIZE, n);
@@ -22,7 +22,7 @@ fn drop_first(part: &mut [u32])
 // Of the nv vertices at vo, vertex i goes.
 pub fn remove_record(work: &mut [u32], vo: usize, nv: usize, i: usize)
     requires { TidyVertices work.old vo nv × (i < nv) }
-    ensures { work.new ≡ splice work.old vo (vertexRecords (without (verticesAt work.old vo nv) i) (without (marksAt work.old vo nv) i) ++ replicate vertexSize 0) }
+    ensures { work.new ≡ splice work.old vo (vertex_records (without (vertices_at work.old vo nv) i) (without (marks_at work.old vo nv) i) ++ replicate vertex_size 0) }
 {
     let a = vo + i * VERTEX_SIZE;
     let e = vo + nv * VERTEX_SIZE;

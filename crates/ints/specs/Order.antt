@@ -10,17 +10,17 @@ use mir.Val.{SFits, hbits}
 use Rattle.ints.specs.Ring.{Is, is_eq, upℤ, dnℤ, at, nat, neg, ◌⊕◌, ◌⊖◌, ◌⊗◌}
 
 -- ---- the tests, at integers whose naturals are known
-test-le : (a b : ℤ) → upℤ a + dnℤ b ≤ upℤ b + dnℤ a → T (le_z a b)
-test-le (pos x) (pos y) h = le→leb x y (go x y h)
+test_le : (a b : ℤ) → upℤ a + dnℤ b ≤ upℤ b + dnℤ a → T (le_z a b)
+test_le (pos x) (pos y) h = le→leb x y (go x y h)
   where
     go : (x y : ℕ) → x + 0 ≤ y + 0 → x ≤ y
     go x y h = omega arith
-test-le (pos x) (negsuc y) h = absurd (go x y h)
+test_le (pos x) (negsuc y) h = absurd (go x y h)
   where
     go : (x y : ℕ) → x + suc y ≤ 0 + 0 → ⊥
     go x y h = omega arith
-test-le (negsuc x) (pos y) h = tt
-test-le (negsuc x) (negsuc y) h = le→leb y x (go x y h)
+test_le (negsuc x) (pos y) h = tt
+test_le (negsuc x) (negsuc y) h = le→leb y x (go x y h)
   where
     go : (x y : ℕ) → 0 + suc y ≤ 0 + suc x → y ≤ x
     go x y h = omega arith
@@ -31,17 +31,17 @@ le_test (pos x) (negsuc y) t = absurd t
 le_test (negsuc x) (pos y) t = omega arith
 le_test (negsuc x) (negsuc y) t = omega (arith, leb→le y x t)
 
-test-lt : (a b : ℤ) → upℤ a + dnℤ b < upℤ b + dnℤ a → T (lt_z a b)
-test-lt (pos x) (pos y) h = lt→ltb x y (go x y h)
+test_lt : (a b : ℤ) → upℤ a + dnℤ b < upℤ b + dnℤ a → T (lt_z a b)
+test_lt (pos x) (pos y) h = lt→ltb x y (go x y h)
   where
     go : (x y : ℕ) → x + 0 < y + 0 → x < y
     go x y h = omega arith
-test-lt (pos x) (negsuc y) h = absurd (go x y h)
+test_lt (pos x) (negsuc y) h = absurd (go x y h)
   where
     go : (x y : ℕ) → x + suc y < 0 + 0 → ⊥
     go x y h = omega arith
-test-lt (negsuc x) (pos y) h = tt
-test-lt (negsuc x) (negsuc y) h = lt→ltb y x (go x y h)
+test_lt (negsuc x) (pos y) h = tt
+test_lt (negsuc x) (negsuc y) h = lt→ltb y x (go x y h)
   where
     go : (x y : ℕ) → 0 + suc y < 0 + suc x → y < x
     go x y h = omega arith
@@ -55,7 +55,7 @@ lt_test (negsuc x) (negsuc y) t = omega (arith, ltb→lt y x t)
 -- ---- an order, by one of naturals, and back
 module _ {a b : ℤ} {p n q m : ℕ} (A : Is a p n) (B : Is b q m) where
   pub is_le : p + m ≤ q + n → a ≤ℤ b
-  is_le e = record { le = test-le a b (go (upℤ a) (dnℤ a) (upℤ b) (dnℤ b) A.is B.is) }
+  is_le e = record { le = test_le a b (go (upℤ a) (dnℤ a) (upℤ b) (dnℤ b) A.is B.is) }
     where
       go : (u d v c : ℕ) → p + d ≡ u + n → q + c ≡ v + m → u + c ≤ v + d
       go u d v c h k = omega arith
@@ -67,13 +67,13 @@ module _ {a b : ℤ} {p n q m : ℕ} (A : Is a p n) (B : Is b q m) where
       go u d v c h k e = omega arith
 
   pub is_lt : p + m < q + n → a <ℤ b
-  is_lt e = record { lt = test-lt a b (go (upℤ a) (dnℤ a) (upℤ b) (dnℤ b) A.is B.is) }
+  is_lt e = record { lt = test_lt a b (go (upℤ a) (dnℤ a) (upℤ b) (dnℤ b) A.is B.is) }
     where
       go : (u d v c : ℕ) → p + d ≡ u + n → q + c ≡ v + m → u + c < v + d
       go u d v c h k = omega arith
 
-  pub lt-is : a <ℤ b → p + m < q + n
-  lt-is e = go (upℤ a) (dnℤ a) (upℤ b) (dnℤ b) A.is B.is (lt_test a b e.lt)
+  pub lt_is : a <ℤ b → p + m < q + n
+  lt_is e = go (upℤ a) (dnℤ a) (upℤ b) (dnℤ b) A.is B.is (lt_test a b e.lt)
     where
       go : (u d v c : ℕ) → p + d ≡ u + n → q + c ≡ v + m → u + c < v + d → p + m < q + n
       go u d v c h k e = omega arith
@@ -89,25 +89,25 @@ T_true : (b : Bool) → b ≡ true → T b
 T_true true e = tt
 T_true false e = subst T (sym e) tt
 
-true-T : (b : Bool) → T b → b ≡ true
-true-T true t = refl
-true-T false t = absurd t
+true_T : (b : Bool) → T b → b ≡ true
+true_T true t = refl
+true_T false t = absurd t
 
-pub lt-true : {a b : ℤ} → lt_z a b ≡ true → a <ℤ b
-lt-true {a} {b} e = record { lt = T_true (lt_z a b) e }
+pub lt_true : {a b : ℤ} → lt_z a b ≡ true → a <ℤ b
+lt_true {a} {b} e = record { lt = T_true (lt_z a b) e }
 
-pub true-lt : {a b : ℤ} → a <ℤ b → lt_z a b ≡ true
-true-lt {a} {b} h = true-T (lt_z a b) h.lt
+pub true_lt : {a b : ℤ} → a <ℤ b → lt_z a b ≡ true
+true_lt {a} {b} h = true_T (lt_z a b) h.lt
 
-pub le-true : {a b : ℤ} → le_z a b ≡ true → a ≤ℤ b
-le-true {a} {b} e = record { le = T_true (le_z a b) e }
+pub le_true : {a b : ℤ} → le_z a b ≡ true → a ≤ℤ b
+le_true {a} {b} e = record { le = T_true (le_z a b) e }
 
-pub true-le : {a b : ℤ} → a ≤ℤ b → le_z a b ≡ true
-true-le {a} {b} h = true-T (le_z a b) h.le
+pub true_le : {a b : ℤ} → a ≤ℤ b → le_z a b ≡ true
+true_le {a} {b} h = true_T (le_z a b) h.le
 
 -- the two tests are each other's negation
-pub not-lt : (a b : ℤ) → not (lt_z a b) ≡ le_z b a
-not-lt a b = go (lt_z a b) (le_z b a) (λ t. lt_test a b t) (λ t. le_test b a t) (λ h. test-lt a b h) (λ h. test-le b a h)
+pub not_lt : (a b : ℤ) → not (lt_z a b) ≡ le_z b a
+not_lt a b = go (lt_z a b) (le_z b a) (λ t. lt_test a b t) (λ t. le_test b a t) (λ h. test_lt a b h) (λ h. test_le b a h)
   where
     go : (s t : Bool) → (T s → upℤ a + dnℤ b < upℤ b + dnℤ a) → (T t → upℤ b + dnℤ a ≤ upℤ a + dnℤ b) → (upℤ a + dnℤ b < upℤ b + dnℤ a → T s) → (upℤ b + dnℤ a ≤ upℤ a + dnℤ b → T t) → not s ≡ t
     go true true f g h k = let x = f tt in let y = g tt in absurd (omega arith)
@@ -115,8 +115,8 @@ not-lt a b = go (lt_z a b) (le_z b a) (λ t. lt_test a b t) (λ t. le_test b a t
     go false true f g h k = refl
     go false false f g h k = absurd (omega arith)
 
-pub not-le : (a b : ℤ) → not (le_z a b) ≡ lt_z b a
-not-le a b = sym (go (lt_z b a) (le_z a b) (not-lt b a))
+pub not_le : (a b : ℤ) → not (le_z a b) ≡ lt_z b a
+not_le a b = sym (go (lt_z b a) (le_z a b) (not_lt b a))
   where
     go : (s t : Bool) → not s ≡ t → s ≡ not t
     go true true e = sym e
@@ -124,25 +124,25 @@ not-le a b = sym (go (lt_z b a) (le_z a b) (not-lt b a))
     go false true e = refl
     go false false e = sym e
 
-pub lt-false : {a b : ℤ} → lt_z a b ≡ false → b ≤ℤ a
-lt-false {a} {b} e = le-true (sym (not-lt a b) ∙ ap not e)
+pub lt_false : {a b : ℤ} → lt_z a b ≡ false → b ≤ℤ a
+lt_false {a} {b} e = le_true (sym (not_lt a b) ∙ ap not e)
 
-pub false-lt : {a b : ℤ} → b ≤ℤ a → lt_z a b ≡ false
-false-lt {a} {b} h = sym (not-le b a) ∙ ap not (true-le h)
+pub false_lt : {a b : ℤ} → b ≤ℤ a → lt_z a b ≡ false
+false_lt {a} {b} h = sym (not_le b a) ∙ ap not (true_le h)
 
-pub le-false : {a b : ℤ} → le_z a b ≡ false → b <ℤ a
-le-false {a} {b} e = lt-true (sym (not-le a b) ∙ ap not e)
+pub le_false : {a b : ℤ} → le_z a b ≡ false → b <ℤ a
+le_false {a} {b} e = lt_true (sym (not_le a b) ∙ ap not e)
 
-pub false-le : {a b : ℤ} → b <ℤ a → le_z a b ≡ false
-false-le {a} {b} h = sym (not-lt b a) ∙ ap not (true-lt h)
+pub false_le : {a b : ℤ} → b <ℤ a → le_z a b ≡ false
+false_le {a} {b} h = sym (not_lt b a) ∙ ap not (true_lt h)
 
 -- ---- size: z is between −k and k
 pub record Within (k : ℕ) (z : ℤ) : Type 0 where
   pub size : nat_abs z ≤ k
 
-abs-of : (z : ℤ) → nat_abs z ≡ upℤ z + dnℤ z
-abs-of (pos n) = omega arith
-abs-of (negsuc n) = omega arith
+abs_of : (z : ℤ) → nat_abs z ≡ upℤ z + dnℤ z
+abs_of (pos n) = omega arith
+abs_of (negsuc n) = omega arith
 
 -- from the two naturals, and back
 pub is_within : {z : ℤ} {p n k : ℕ} → Is z p n → p ≤ n + k → n ≤ p + k → Within k z
@@ -152,52 +152,52 @@ is_within {z} {p} {n} {k} A h g = record { size = go z A.is }
     go (pos x) e = omega arith
     go (negsuc x) e = omega arith
 
-pub within-is : {z : ℤ} {p n k : ℕ} → Is z p n → Within k z → (p ≤ n + k) × (n ≤ p + k)
-within-is {z} {p} {n} {k} A w = go z A.is w.size
+pub within_is : {z : ℤ} {p n k : ℕ} → Is z p n → Within k z → (p ≤ n + k) × (n ≤ p + k)
+within_is {z} {p} {n} {k} A w = go z A.is w.size
   where
     go : (z : ℤ) → p + dnℤ z ≡ upℤ z + n → nat_abs z ≤ k → (p ≤ n + k) × (n ≤ p + k)
     go (pos x) e h = omega arith
     go (negsuc x) e h = omega arith
 
-pub within-pos : {k n : ℕ} → n ≤ k → Within k (pos n)
-within-pos h = record { size = h }
+pub within_pos : {k n : ℕ} → n ≤ k → Within k (pos n)
+within_pos h = record { size = h }
 
 -- the difference of two naturals up to k
-pub within-gap : {k m n : ℕ} → m ≤ k → n ≤ k → Within k (pos m -ℤ pos n)
-within-gap {k} {m} {n} h g = is_within (nat m ⊖ nat n) (omega arith) (omega arith)
+pub within_gap : {k m n : ℕ} → m ≤ k → n ≤ k → Within k (pos m -ℤ pos n)
+within_gap {k} {m} {n} h g = is_within (nat m ⊖ nat n) (omega arith) (omega arith)
 
-pub within-add : {j k : ℕ} {a b : ℤ} → Within j a → Within k b → Within (j + k) (a +ℤ b)
-within-add {j} {k} {a} {b} h g = let x = within-is (at a) h in let y = within-is (at b) g in is_within (at a ⊕ at b) (omega arith) (omega arith)
+pub within_add : {j k : ℕ} {a b : ℤ} → Within j a → Within k b → Within (j + k) (a +ℤ b)
+within_add {j} {k} {a} {b} h g = let x = within_is (at a) h in let y = within_is (at b) g in is_within (at a ⊕ at b) (omega arith) (omega arith)
 
-pub within-sub : {j k : ℕ} {a b : ℤ} → Within j a → Within k b → Within (j + k) (a -ℤ b)
-within-sub {j} {k} {a} {b} h g = let x = within-is (at a) h in let y = within-is (at b) g in is_within (at a ⊖ at b) (omega arith) (omega arith)
+pub within_sub : {j k : ℕ} {a b : ℤ} → Within j a → Within k b → Within (j + k) (a -ℤ b)
+within_sub {j} {k} {a} {b} h g = let x = within_is (at a) h in let y = within_is (at b) g in is_within (at a ⊖ at b) (omega arith) (omega arith)
 
 abs_neg : (n : ℕ) → nat_abs (neg_ℤ (pos n)) ≡ n
 abs_neg zero = refl
 abs_neg (suc n) = refl
 
-abs-mul : (a b : ℤ) → nat_abs (a *ℤ b) ≡ nat_abs a * nat_abs b
-abs-mul (pos x) (pos y) = refl
-abs-mul (pos x) (negsuc y) = abs_neg (x * suc y)
-abs-mul (negsuc x) (pos y) = abs_neg (suc x * y)
-abs-mul (negsuc x) (negsuc y) = refl
+abs_mul : (a b : ℤ) → nat_abs (a *ℤ b) ≡ nat_abs a * nat_abs b
+abs_mul (pos x) (pos y) = refl
+abs_mul (pos x) (negsuc y) = abs_neg (x * suc y)
+abs_mul (negsuc x) (pos y) = abs_neg (suc x * y)
+abs_mul (negsuc x) (negsuc y) = refl
 
-pub within-mul : {j k : ℕ} {a b : ℤ} → Within j a → Within k b → Within (j * k) (a *ℤ b)
-within-mul {j} {k} {a} {b} h g = record { size = rw (abs-mul a b) (mul-le-mul h.size g.size) }
+pub within_mul : {j k : ℕ} {a b : ℤ} → Within j a → Within k b → Within (j * k) (a *ℤ b)
+within_mul {j} {k} {a} {b} h g = record { size = rw (abs_mul a b) (mul-le-mul h.size g.size) }
 
-pub within-le : {j k : ℕ} {z : ℤ} → j ≤ k → Within j z → Within k z
-within-le h w = record { size = le_trans w.size h }
+pub within_le : {j k : ℕ} {z : ℤ} → j ≤ k → Within j z → Within k z
+within_le h w = record { size = le_trans w.size h }
 
-mag-abs : (z : ℤ) → mag z ≤ nat_abs z
-mag-abs (pos n) = omega arith
-mag-abs (negsuc n) = omega arith
+mag_abs : (z : ℤ) → mag z ≤ nat_abs z
+mag_abs (pos n) = omega arith
+mag_abs (negsuc n) = omega arith
 
--- what fits a signed width: `within-fits (lit< tt) w`
-pub within-fits : {w : Width} {k : ℕ} {z : ℤ} → k < 2 ^ hbits w → Within k z → SFits w z
-within-fits {w} {k} {z} h g = record { sfits = lt_of_le_of_lt (le_trans (mag-abs z) g.size) h }
+-- what fits a signed width: `within_fits (lit< tt) w`
+pub within_fits : {w : Width} {k : ℕ} {z : ℤ} → k < 2 ^ hbits w → Within k z → SFits w z
+within_fits {w} {k} {z} h g = record { sfits = lt_of_le_of_lt (le_trans (mag_abs z) g.size) h }
 
-pub fits-within : {w : Width} {z : ℤ} → SFits w z → Within (2 ^ hbits w) z
-fits-within {w} {z} h = record { size = go z h.sfits }
+pub fits_within : {w : Width} {z : ℤ} → SFits w z → Within (2 ^ hbits w) z
+fits_within {w} {z} h = record { size = go z h.sfits }
   where
     go : (z : ℤ) → mag z < 2 ^ hbits w → nat_abs z ≤ 2 ^ hbits w
     go (pos n) h = omega arith
@@ -208,57 +208,57 @@ fits-within {w} {z} h = record { size = go z h.sfits }
 pub told : {z : ℤ} {p n : ℕ} → Is z p n → p + dnℤ z ≡ upℤ z + n
 told A = A.is
 
-pub read-le : {a b : ℤ} → a ≤ℤ b → upℤ a + dnℤ b ≤ upℤ b + dnℤ a
-read-le {a} {b} h = le_is (at a) (at b) h
+pub read_le : {a b : ℤ} → a ≤ℤ b → upℤ a + dnℤ b ≤ upℤ b + dnℤ a
+read_le {a} {b} h = le_is (at a) (at b) h
 
-pub read-lt : {a b : ℤ} → a <ℤ b → upℤ a + dnℤ b < upℤ b + dnℤ a
-read-lt {a} {b} h = lt-is (at a) (at b) h
+pub read_lt : {a b : ℤ} → a <ℤ b → upℤ a + dnℤ b < upℤ b + dnℤ a
+read_lt {a} {b} h = lt_is (at a) (at b) h
 
-pub read-eq : {a b : ℤ} → a ≡ b → upℤ a + dnℤ b ≡ upℤ b + dnℤ a
-read-eq {a} {b} h = eq_is (at a) (at b) h
+pub read_eq : {a b : ℤ} → a ≡ b → upℤ a + dnℤ b ≡ upℤ b + dnℤ a
+read_eq {a} {b} h = eq_is (at a) (at b) h
 
-pub made-le : {a b : ℤ} → upℤ a + dnℤ b ≤ upℤ b + dnℤ a → a ≤ℤ b
-made-le {a} {b} h = is_le (at a) (at b) h
+pub made_le : {a b : ℤ} → upℤ a + dnℤ b ≤ upℤ b + dnℤ a → a ≤ℤ b
+made_le {a} {b} h = is_le (at a) (at b) h
 
-pub made-lt : {a b : ℤ} → upℤ a + dnℤ b < upℤ b + dnℤ a → a <ℤ b
-made-lt {a} {b} h = is_lt (at a) (at b) h
+pub made_lt : {a b : ℤ} → upℤ a + dnℤ b < upℤ b + dnℤ a → a <ℤ b
+made_lt {a} {b} h = is_lt (at a) (at b) h
 
-pub made-eq : {a b : ℤ} → upℤ a + dnℤ b ≡ upℤ b + dnℤ a → a ≡ b
-made-eq {a} {b} h = is_eq (at a) (at b) h
+pub made_eq : {a b : ℤ} → upℤ a + dnℤ b ≡ upℤ b + dnℤ a → a ≡ b
+made_eq {a} {b} h = is_eq (at a) (at b) h
 
 -- of a test, as a branch of code leaves it
-pub read-lt-true : (a b : ℤ) → lt_z a b ≡ true → upℤ a + dnℤ b < upℤ b + dnℤ a
-read-lt-true a b e = read-lt (lt-true {a = a} {b = b} e)
+pub read_lt_true : (a b : ℤ) → lt_z a b ≡ true → upℤ a + dnℤ b < upℤ b + dnℤ a
+read_lt_true a b e = read_lt (lt_true {a = a} {b = b} e)
 
-pub read-lt-false : (a b : ℤ) → lt_z a b ≡ false → upℤ b + dnℤ a ≤ upℤ a + dnℤ b
-read-lt-false a b e = read-le (lt-false {a = a} {b = b} e)
+pub read_lt_false : (a b : ℤ) → lt_z a b ≡ false → upℤ b + dnℤ a ≤ upℤ a + dnℤ b
+read_lt_false a b e = read_le (lt_false {a = a} {b = b} e)
 
-pub read-le-true : (a b : ℤ) → le_z a b ≡ true → upℤ a + dnℤ b ≤ upℤ b + dnℤ a
-read-le-true a b e = read-le (le-true {a = a} {b = b} e)
+pub read_le_true : (a b : ℤ) → le_z a b ≡ true → upℤ a + dnℤ b ≤ upℤ b + dnℤ a
+read_le_true a b e = read_le (le_true {a = a} {b = b} e)
 
-pub read-le-false : (a b : ℤ) → le_z a b ≡ false → upℤ b + dnℤ a < upℤ a + dnℤ b
-read-le-false a b e = read-lt (le-false {a = a} {b = b} e)
+pub read_le_false : (a b : ℤ) → le_z a b ≡ false → upℤ b + dnℤ a < upℤ a + dnℤ b
+read_le_false a b e = read_lt (le_false {a = a} {b = b} e)
 
-pub made-lt-true : (a b : ℤ) → upℤ a + dnℤ b < upℤ b + dnℤ a → lt_z a b ≡ true
-made-lt-true a b h = true-lt (made-lt {a = a} {b = b} h)
+pub made_lt_true : (a b : ℤ) → upℤ a + dnℤ b < upℤ b + dnℤ a → lt_z a b ≡ true
+made_lt_true a b h = true_lt (made_lt {a = a} {b = b} h)
 
-pub made-lt-false : (a b : ℤ) → upℤ b + dnℤ a ≤ upℤ a + dnℤ b → lt_z a b ≡ false
-made-lt-false a b h = false-lt (made-le {a = b} {b = a} h)
+pub made_lt_false : (a b : ℤ) → upℤ b + dnℤ a ≤ upℤ a + dnℤ b → lt_z a b ≡ false
+made_lt_false a b h = false_lt (made_le {a = b} {b = a} h)
 
-pub made-le-true : (a b : ℤ) → upℤ a + dnℤ b ≤ upℤ b + dnℤ a → le_z a b ≡ true
-made-le-true a b h = true-le (made-le {a = a} {b = b} h)
+pub made_le_true : (a b : ℤ) → upℤ a + dnℤ b ≤ upℤ b + dnℤ a → le_z a b ≡ true
+made_le_true a b h = true_le (made_le {a = a} {b = b} h)
 
-pub made-le-false : (a b : ℤ) → upℤ b + dnℤ a < upℤ a + dnℤ b → le_z a b ≡ false
-made-le-false a b h = false-le (made-lt {a = b} {b = a} h)
+pub made_le_false : (a b : ℤ) → upℤ b + dnℤ a < upℤ a + dnℤ b → le_z a b ≡ false
+made_le_false a b h = false_le (made_lt {a = b} {b = a} h)
 
 pub ruleset ints =
-    (arith, read-le, read-lt, read-eq, read-lt-true, read-lt-false, read-le-true, read-le-false, made-le, made-lt, made-eq, made-lt-true, made-lt-false, made-le-true, made-le-false)
+    (arith, read_le, read_lt, read_eq, read_lt_true, read_lt_false, read_le_true, read_le_false, made_le, made_lt, made_eq, made_lt_true, made_lt_false, made_le_true, made_le_false)
 
 -- ---- the signs of products
-pub mul-pos : {a b : ℤ} → pos 0 <ℤ a → pos 0 <ℤ b → pos 0 <ℤ (a *ℤ b)
-mul-pos {a = pos x} {b = pos y} h k = record { lt = lt→ltb 0 (x * y) (Nat.mul-pos (ltb→lt 0 x h.lt) (ltb→lt 0 y k.lt)) }
-mul-pos {a = pos x} {b = negsuc y} h k = absurd k.lt
-mul-pos {a = negsuc x} {b} h k = absurd h.lt
+pub mul_pos : {a b : ℤ} → pos 0 <ℤ a → pos 0 <ℤ b → pos 0 <ℤ (a *ℤ b)
+mul_pos {a = pos x} {b = pos y} h k = record { lt = lt→ltb 0 (x * y) (Nat.mul-pos (ltb→lt 0 x h.lt) (ltb→lt 0 y k.lt)) }
+mul_pos {a = pos x} {b = negsuc y} h k = absurd k.lt
+mul_pos {a = negsuc x} {b} h k = absurd h.lt
 
 -- a ≤ b, times what is not negative
 pub mul_mono : {a b : ℤ} (c : ℤ) → a ≤ℤ b → pos 0 ≤ℤ c → (a *ℤ c) ≤ℤ (b *ℤ c)
@@ -266,8 +266,8 @@ mul_mono {a} {b} (pos z) h k = is_le (at a ⊗ nat z) (at b ⊗ nat z) (omega (a
 mul_mono {a} {b} (negsuc z) h k = absurd k.le
 
 -- the other factor of a positive product
-pub pos-of-mul : (a b : ℤ) → pos 0 <ℤ a → pos 0 <ℤ (a *ℤ b) → pos 0 <ℤ b
-pos-of-mul (pos x) (pos zero) h k = omega (ints, told (nat x ⊗ nat 0))
-pos-of-mul (pos x) (pos (suc y)) h k = record { lt = lt→ltb 0 (suc y) (omega arith) }
-pos-of-mul (pos x) (negsuc y) h k = omega (ints, told (nat x ⊗ neg (nat (suc y))))
-pos-of-mul (negsuc x) b h k = absurd h.lt
+pub pos_of_mul : (a b : ℤ) → pos 0 <ℤ a → pos 0 <ℤ (a *ℤ b) → pos 0 <ℤ b
+pos_of_mul (pos x) (pos zero) h k = omega (ints, told (nat x ⊗ nat 0))
+pos_of_mul (pos x) (pos (suc y)) h k = record { lt = lt→ltb 0 (suc y) (omega arith) }
+pos_of_mul (pos x) (negsuc y) h k = omega (ints, told (nat x ⊗ neg (nat (suc y))))
+pos_of_mul (negsuc x) b h k = absurd h.lt

@@ -1,59 +1,59 @@
 -- A mesh that is built, handed on as it lies in the lent buffers, becomes the mesh's own file: what `rules` states in its file `StlText`. Assumes nothing.
--- Key: `built-is-carved`.
+-- Key: `built_is_carved`.
 use Rattle.std.specs.Prelude.{ℕ, ◌+◌, ◌-◌, ◌≡◌, refl, List, [], ◌++◌, map, Float, length}
 use Rattle.std.proofs.Math.Path.{ap}
 use Rattle.std.proofs.Common.{◌∙◌}
 use Rattle.std.proofs.lemmas.List.{length-map}
-use Rattle.mem.specs.Loops.{over, over-cong}
+use Rattle.mem.specs.Loops.{over, over_cong}
 use Rattle.rules.specs.declared.Vertex.{Vertex}
 use Rattle.rules.specs.declared.Soundness.TheVariants.{Sound}
-use Rattle.rules.specs.Mesh.{Mesh, Polygon, polygonAt}
+use Rattle.rules.specs.Mesh.{Mesh, Polygon, polygon_at}
 use Rattle.rules.specs.Removal.{Removal}
 use Rattle.rules.specs.Job.{Job}
 use Rattle.rules.specs.Checks.{Lent}
 use Rattle.rules.specs.Build.{built, outcome}
 use Rattle.rules.specs.Exits.{exits}
 use Rattle.rules.specs.Handed.{Handed, soundness}
-use Rattle.rules.specs.Checker.{handedOn}
-use Rattle.rules.specs.Stl.{Scale, size_of, heightOf, fanOf, facetsOf, facetCount, fileOf}
-use Rattle.rules.specs.StlCall.{meshFacets, meshCount, meshFile}
+use Rattle.rules.specs.Checker.{handed_on}
+use Rattle.rules.specs.Stl.{Scale, size_of, height_of, fan_of, facets_of, facet_count, file_of}
+use Rattle.rules.specs.StlCall.{mesh_facets, mesh_count, mesh_file}
 use Rattle.rules.specs.StlText.{carved, BuiltIsCarved}
-use Rattle.laws.specs.Handed.{sound-exactly}
-use Rattle.laws.specs.Exits.{exits-built}
-use Rattle.laws.specs.Written.{bare, bare-corners, Meets, written, claimed, polygons-are, vertices-are, meets-acceptable}
-use Rattle.laws.specs.Own.{meets, handed-is}
+use Rattle.laws.specs.Handed.{sound_exactly}
+use Rattle.laws.specs.Exits.{exits_built}
+use Rattle.laws.specs.Written.{bare, bare_corners, Meets, written, claimed, polygons_are, vertices_are, meets_acceptable}
+use Rattle.laws.specs.Own.{meets, handed_is}
 
 -- ---- facets go by the corners alone
 
-pub facets-bare : (size height : Float) (vs : List Vertex) (ps : List Polygon) → facetsOf size height vs (map bare ps) ≡ facetsOf size height vs ps
-unfolding facetsOf
-facets-bare size height vs ps =
+pub facets_bare : (size height : Float) (vs : List Vertex) (ps : List Polygon) → facets_of size height vs (map bare ps) ≡ facets_of size height vs ps
+unfolding facets_of
+facets_bare size height vs ps =
     rw (length-map ps bare)
-    (over-cong [] ◌++◌ (λ i. fanOf size height vs (polygonAt (map bare ps) i).corners) (λ i. fanOf size height vs (polygonAt ps i).corners) 0 (length ps)
-    (λ i a h. ap (fanOf size height vs) (bare-corners ps i)))
+    (over_cong [] ◌++◌ (λ i. fan_of size height vs (polygon_at (map bare ps) i).corners) (λ i. fan_of size height vs (polygon_at ps i).corners) 0 (length ps)
+    (λ i a h. ap (fan_of size height vs) (bare_corners ps i)))
 
-pub count-bare : (ps : List Polygon) → facetCount (map bare ps) ≡ facetCount ps
-unfolding facetCount
-count-bare ps =
+pub count_bare : (ps : List Polygon) → facet_count (map bare ps) ≡ facet_count ps
+unfolding facet_count
+count_bare ps =
     rw (length-map ps bare)
-    (over-cong 0 ◌+◌ (λ i. length (polygonAt (map bare ps) i).corners - 2) (λ i. length (polygonAt ps i).corners - 2) 0 (length ps)
-    (λ i a h. ap (λ (cs : List ℕ). length cs - 2) (bare-corners ps i)))
+    (over_cong 0 ◌+◌ (λ i. length (polygon_at (map bare ps) i).corners - 2) (λ i. length (polygon_at ps i).corners - 2) 0 (length ps)
+    (λ i a h. ap (λ (cs : List ℕ). length cs - 2) (bare_corners ps i)))
 
 -- ---- a mesh that is written one thing after the other
 
 module _ (nvp w h border : ℕ) (vs : List Vertex) (ps : List Polygon) (ls : List (List ℕ)) (x : Meets nvp w h border vs ps ls) where
-  written-sound : soundness (written nvp w h border vs ps ls x) ≡ Sound
+  written_sound : soundness (written nvp w h border vs ps ls x) ≡ Sound
   unfolding claimed
-  written-sound = (sound-exactly (written nvp w h border vs ps ls x)).1 (meets-acceptable nvp w h border vs ps ls x).consistent
+  written_sound = (sound_exactly (written nvp w h border vs ps ls x)).1 (meets_acceptable nvp w h border vs ps ls x).consistent
 
-  written_count : meshCount (written nvp w h border vs ps ls x) ≡ facetCount ps
-  unfolding meshCount
-  written_count = ap facetCount (polygons-are nvp w h border vs ps ls x) ∙ count-bare ps
+  written_count : mesh_count (written nvp w h border vs ps ls x) ≡ facet_count ps
+  unfolding mesh_count
+  written_count = ap facet_count (polygons_are nvp w h border vs ps ls x) ∙ count_bare ps
 
-  written-file : (s : Scale) → meshFile (written nvp w h border vs ps ls x) s ≡ fileOf (facetsOf (size_of s) (heightOf s) vs ps)
-  unfolding meshFile meshFacets
-  written-file s =
-      rw (polygons-are nvp w h border vs ps ls x, vertices-are nvp w h border vs ps ls x) (ap fileOf (facets-bare (size_of s) (heightOf s) vs ps))
+  written_file : (s : Scale) → mesh_file (written nvp w h border vs ps ls x) s ≡ file_of (facets_of (size_of s) (height_of s) vs ps)
+  unfolding mesh_file mesh_facets
+  written_file s =
+      rw (polygons_are nvp w h border vs ps ls x, vertices_are nvp w h border vs ps ls x) (ap file_of (facets_bare (size_of s) (height_of s) vs ps))
 
 -- ---- a mesh that is built
 
@@ -61,15 +61,15 @@ module _ (j : Job) (b : Lent) (m : Mesh) (ls : List (List ℕ)) (log : List Remo
   abbrev own : Handed
   own = written j.nvp j.w j.h j.border m.vertices m.polygons ls (meets j b m ls log e)
 
-  handed-own : handedOn j.nvp (exits j b) (length m.polygons) (length m.vertices) ≡ own
-  handed-own = rw (exits-built j b m ls log e) (handed-is j b m ls log e)
+  handed_own : handed_on j.nvp (exits j b) (length m.polygons) (length m.vertices) ≡ own
+  handed_own = rw (exits_built j b m ls log e) (handed_is j b m ls log e)
 
-pub built-is-carved : BuiltIsCarved
+pub built_is_carved : BuiltIsCarved
 unfolding carved
-built-is-carved j b m ls log s e =
+built_is_carved j b m ls log s e =
     let x = meets j b m ls log e in
-    rw (handed-own j b m ls log e) (
-      written-sound j.nvp j.w j.h j.border m.vertices m.polygons ls x,
+    rw (handed_own j b m ls log e) (
+      written_sound j.nvp j.w j.h j.border m.vertices m.polygons ls x,
       written_count j.nvp j.w j.h j.border m.vertices m.polygons ls x,
-      written-file j.nvp j.w j.h j.border m.vertices m.polygons ls x s,
+      written_file j.nvp j.w j.h j.border m.vertices m.polygons ls x s,
     )

@@ -5,106 +5,106 @@ use Rattle.std.proofs.Common.{arith, inl, inr, ⊎_elim, ltb-false, leb-true, eq
 use Rattle.std.proofs.lemmas.Bool.{not-false, lt-leb}
 use Rattle.ints.specs.Bools.{and_left, and_right, or_left, or_right}
 use Rattle.mem.specs.Loops.{over, run}
-use Rattle.mem.specs.Cases.{lt-or-le}
+use Rattle.mem.specs.Cases.{lt_or_le}
 use Rattle.rules.specs.declared.Vertex.{Vertex}
 use Rattle.rules.specs.declared.Found.{Found}
 use Rattle.rules.specs.declared.Found.TheVariants.{At, Nothing}
 use Rattle.rules.specs.declared.Refusal.{Refusal}
 use Rattle.rules.specs.declared.Refusal.TheVariants.{BadCornerLimit, CountsDisagree, HighCoordinate, BadFlag, TooManyVertices, ShortBuffer}
-use Rattle.rules.specs.Plane.{onPlane, InGrid}
-use Rattle.rules.specs.Job.{Job, jobStride, vertexAt, flagAt, sumOver, countAll, countV, count_t}
-use Rattle.rules.specs.Checks.{Checked, passed, refusal, orNext, refuseIf, refuseAt, checkNvp, countsAgree, checkCounts, isHigh, firstHigh, firstBadFlag, checkV, leastLengths, firstShort, check}
-use Rattle.laws.specs.Lowest.{first-none}
+use Rattle.rules.specs.Plane.{on_plane, InGrid}
+use Rattle.rules.specs.Job.{Job, job_stride, vertex_at, flag_at, sum_over, count_all, count_v, count_t}
+use Rattle.rules.specs.Checks.{Checked, passed, refusal, or_next, refuse_if, refuse_at, check_nvp, counts_agree, check_counts, is_high, first_high, first_bad_flag, check_v, least_lengths, first_short, check}
+use Rattle.laws.specs.Lowest.{first_none}
 
 -- ---- a check that passes
-or-first : (a b : Checked) → orNext a b ≡ passed → a ≡ passed
-unfolding orNext
-or-first passed b e = refl
-or-first (refusal r) b e = e
+or_first : (a b : Checked) → or_next a b ≡ passed → a ≡ passed
+unfolding or_next
+or_first passed b e = refl
+or_first (refusal r) b e = e
 
-or-second : (a b : Checked) → orNext a b ≡ passed → b ≡ passed
-unfolding orNext
-or-second passed b e = e
-or-second (refusal r) b e = let z : ◌≡◌ {A = ℕ} 0 1 = cc in absurd (omega arith)
+or_second : (a b : Checked) → or_next a b ≡ passed → b ≡ passed
+unfolding or_next
+or_second passed b e = e
+or_second (refusal r) b e = let z : ◌≡◌ {A = ℕ} 0 1 = cc in absurd (omega arith)
 
-pub not-refused : (b : Bool) (r : Refusal) → refuseIf b r ≡ passed → b ≡ false
-unfolding refuseIf
-not-refused true r e = let z : ◌≡◌ {A = ℕ} 0 1 = cc in absurd (omega arith)
-not-refused false r e = refl
+pub not_refused : (b : Bool) (r : Refusal) → refuse_if b r ≡ passed → b ≡ false
+unfolding refuse_if
+not_refused true r e = let z : ◌≡◌ {A = ℕ} 0 1 = cc in absurd (omega arith)
+not_refused false r e = refl
 
-not_found : (r : ℕ → Refusal) (f : Found) → refuseAt r f ≡ passed → f ≡ Nothing
-unfolding refuseAt
+not_found : (r : ℕ → Refusal) (f : Found) → refuse_at r f ≡ passed → f ≡ Nothing
+unfolding refuse_at
 not_found r (At k) e = let z : ◌≡◌ {A = ℕ} 0 1 = cc in absurd (omega arith)
 not_found r Nothing e = refl
 
-not-high : (v : Vertex) → isHigh v ≡ false → InGrid (onPlane v)
-unfolding isHigh
-not-high v e = record {
-  x-small = ltb-false 32767 v.x (or_left (ltb 32767 v.x) (ltb 32767 v.z) e);
-  z-small = ltb-false 32767 v.z (or_right (ltb 32767 v.x) (ltb 32767 v.z) e);
+not_high : (v : Vertex) → is_high v ≡ false → InGrid (on_plane v)
+unfolding is_high
+not_high v e = record {
+  x_small = ltb-false 32767 v.x (or_left (ltb 32767 v.x) (ltb 32767 v.z) e);
+  z_small = ltb-false 32767 v.z (or_right (ltb 32767 v.x) (ltb 32767 v.z) e);
 }
 
 -- what a job that passes the checks is, where ls are the lengths of the lent buffers
 pub record Passed (j : Job) (ls : List ℕ) : Type 0 where
-  pub nvp-low : 3 ≤ j.nvp
-  pub nvp-high : j.nvp ≤ 12
-  pub agree : countsAgree j ≡ true
-  pub grid : (k : ℕ) → k < countAll j → InGrid (onPlane (vertexAt j.numbers k))
-  pub flags : (k : ℕ) → k < countAll j → flagAt j.numbers k ≤ 1
-  pub few : countV j ≤ 65535
-  pub room : (k : ℕ) → k < length (leastLengths j) → get_or (leastLengths j) k 0 ≤ get_or ls k 0
+  pub nvp_low : 3 ≤ j.nvp
+  pub nvp_high : j.nvp ≤ 12
+  pub agree : counts_agree j ≡ true
+  pub grid : (k : ℕ) → k < count_all j → InGrid (on_plane (vertex_at j.numbers k))
+  pub flags : (k : ℕ) → k < count_all j → flag_at j.numbers k ≤ 1
+  pub few : count_v j ≤ 65535
+  pub room : (k : ℕ) → k < length (least_lengths j) → get_or (least_lengths j) k 0 ≤ get_or ls k 0
 
 pub checked : (j : Job) (ls : List ℕ) → check j ls ≡ passed → Passed j ls
-unfolding check checkNvp checkCounts checkV firstHigh firstBadFlag firstShort
+unfolding check check_nvp check_counts check_v first_high first_bad_flag first_short
 checked j ls e₁ = record {
-  nvp-low = ltb-false j.nvp 3 (or_left (ltb j.nvp 3) (ltb 12 j.nvp) n);
-  nvp-high = ltb-false 12 j.nvp (or_right (ltb j.nvp 3) (ltb 12 j.nvp) n);
-  agree = not-false (countsAgree j) (not-refused (not (countsAgree j)) CountsDisagree (or-first (checkCounts j) _ e₂));
-  grid = λ k h. not-high (vertexAt j.numbers k)
-      (first-none (λ k. isHigh (vertexAt j.numbers k)) (countAll j) (not_found HighCoordinate (firstHigh j) (or-first high _ e₃)) k h);
-  flags = λ k h. ltb-false 1 (flagAt j.numbers k)
-      (first-none (λ k. ltb 1 (flagAt j.numbers k)) (countAll j) (not_found BadFlag (firstBadFlag j) (or-first flag _ e₄)) k h);
-  few = ltb-false 65535 (countV j) (not-refused (ltb 65535 (countV j)) (TooManyVertices (countV j)) (or-first (checkV j) _ e₅));
+  nvp_low = ltb-false j.nvp 3 (or_left (ltb j.nvp 3) (ltb 12 j.nvp) n);
+  nvp_high = ltb-false 12 j.nvp (or_right (ltb j.nvp 3) (ltb 12 j.nvp) n);
+  agree = not-false (counts_agree j) (not_refused (not (counts_agree j)) CountsDisagree (or_first (check_counts j) _ e₂));
+  grid = λ k h. not_high (vertex_at j.numbers k)
+      (first_none (λ k. is_high (vertex_at j.numbers k)) (count_all j) (not_found HighCoordinate (first_high j) (or_first high _ e₃)) k h);
+  flags = λ k h. ltb-false 1 (flag_at j.numbers k)
+      (first_none (λ k. ltb 1 (flag_at j.numbers k)) (count_all j) (not_found BadFlag (first_bad_flag j) (or_first flag _ e₄)) k h);
+  few = ltb-false 65535 (count_v j) (not_refused (ltb 65535 (count_v j)) (TooManyVertices (count_v j)) (or_first (check_v j) _ e₅));
   room = λ k h. ltb-false (get_or ls k 0) (get_or least k 0)
-      (first-none (λ k. ltb (get_or ls k 0) (get_or least k 0)) (length least) (not_found ShortBuffer (firstShort ls least) (or-second (checkV j) _ e₅)) k h);
+      (first_none (λ k. ltb (get_or ls k 0) (get_or least k 0)) (length least) (not_found ShortBuffer (first_short ls least) (or_second (check_v j) _ e₅)) k h);
 }
   where
     least : List ℕ
-    least = leastLengths j
+    least = least_lengths j
 
     high : Checked
-    high = refuseAt HighCoordinate (firstHigh j)
+    high = refuse_at HighCoordinate (first_high j)
 
     flag : Checked
-    flag = refuseAt BadFlag (firstBadFlag j)
+    flag = refuse_at BadFlag (first_bad_flag j)
 
     short : Checked
-    short = refuseAt ShortBuffer (firstShort ls least)
+    short = refuse_at ShortBuffer (first_short ls least)
 
-    e₂ : orNext (checkCounts j) (orNext high (orNext flag (orNext (checkV j) short))) ≡ passed
-    e₂ = or-second (checkNvp j) _ e₁
+    e₂ : or_next (check_counts j) (or_next high (or_next flag (or_next (check_v j) short))) ≡ passed
+    e₂ = or_second (check_nvp j) _ e₁
 
-    e₃ : orNext high (orNext flag (orNext (checkV j) short)) ≡ passed
-    e₃ = or-second (checkCounts j) _ e₂
+    e₃ : or_next high (or_next flag (or_next (check_v j) short)) ≡ passed
+    e₃ = or_second (check_counts j) _ e₂
 
-    e₄ : orNext flag (orNext (checkV j) short) ≡ passed
-    e₄ = or-second high _ e₃
+    e₄ : or_next flag (or_next (check_v j) short) ≡ passed
+    e₄ = or_second high _ e₃
 
-    e₅ : orNext (checkV j) short ≡ passed
-    e₅ = or-second flag _ e₄
+    e₅ : or_next (check_v j) short ≡ passed
+    e₅ = or_second flag _ e₄
 
     n : (ltb j.nvp 3 || ltb 12 j.nvp) ≡ false
-    n = not-refused (ltb j.nvp 3 || ltb 12 j.nvp) (BadCornerLimit j.nvp) (or-first (checkNvp j) _ e₁)
+    n = not_refused (ltb j.nvp 3 || ltb 12 j.nvp) (BadCornerLimit j.nvp) (or_first (check_nvp j) _ e₁)
 
 -- what it means that the counts agree
 pub record Agreed (j : Job) : Type 0 where
   pub regions : length j.regions ≡ length j.lengths
   pub codes : length j.codes ≡ length j.lengths
-  pub numbers : length j.numbers ≡ countAll j * jobStride
+  pub numbers : length j.numbers ≡ count_all j * job_stride
   pub contours : length j.lengths ≤ 65535
 
-pub agreed : (j : Job) → countsAgree j ≡ true → Agreed j
-unfolding countsAgree
+pub agreed : (j : Job) → counts_agree j ≡ true → Agreed j
+unfolding counts_agree
 agreed j e = record {
   regions = eqb-true _ _ (and_left regions _ e);
   codes = eqb-true _ _ (and_left codes _ (and_right regions _ e));
@@ -119,68 +119,68 @@ agreed j e = record {
     codes = eqb (length j.codes) (length j.lengths)
 
     numbers : Bool
-    numbers = eqb (length j.numbers) (countAll j * jobStride)
+    numbers = eqb (length j.numbers) (count_all j * job_stride)
 
 -- ---- the counts: what contour c adds to V and to T
-abbrev pub pointsIn : List ℕ → ℕ → ℕ
-pointsIn ls c = cond (leb 3 (get_or ls c 0)) (get_or ls c 0) 0
+abbrev pub points_in : List ℕ → ℕ → ℕ
+points_in ls c = cond (leb 3 (get_or ls c 0)) (get_or ls c 0) 0
 
-abbrev pub trianglesIn : List ℕ → ℕ → ℕ
-trianglesIn ls c = cond (leb 3 (get_or ls c 0)) (get_or ls c 0 - 2) 0
+abbrev pub triangles_in : List ℕ → ℕ → ℕ
+triangles_in ls c = cond (leb 3 (get_or ls c 0)) (get_or ls c 0 - 2) 0
 
-run-least : (f : ℕ → ℕ) (m i k : ℕ) → i ≤ k → k < i + m → f k ≤ run 0 ◌+◌ f i m
+run_least : (f : ℕ → ℕ) (m i k : ℕ) → i ≤ k → k < i + m → f k ≤ run 0 ◌+◌ f i m
 unfolding run
-run-least f zero i k h l = absurd (omega arith)
-run-least f (suc m) i k h l = ⊎_elim
-    (λ (a : i < k). omega (arith, run-least f m (suc i) k a (omega arith)))
-    (λ (a : k ≤ i). let e : k ≡ i = omega arith in rw e (omega arith)) (lt-or-le i k)
+run_least f zero i k h l = absurd (omega arith)
+run_least f (suc m) i k h l = ⊎_elim
+    (λ (a : i < k). omega (arith, run_least f m (suc i) k a (omega arith)))
+    (λ (a : k ≤ i). let e : k ≡ i = omega arith in rw e (omega arith)) (lt_or_le i k)
 
-run-mono : (f g : ℕ → ℕ) → ((k : ℕ) → f k ≤ g k) → (m i : ℕ) → run 0 ◌+◌ f i m ≤ run 0 ◌+◌ g i m
+run_mono : (f g : ℕ → ℕ) → ((k : ℕ) → f k ≤ g k) → (m i : ℕ) → run 0 ◌+◌ f i m ≤ run 0 ◌+◌ g i m
 unfolding run
-run-mono f g h zero i = omega arith
-run-mono f g h (suc m) i = omega (arith, h i, run-mono f g h m (suc i))
+run_mono f g h zero i = omega arith
+run_mono f g h (suc m) i = omega (arith, h i, run_mono f g h m (suc i))
 
 -- no contour has more than V vertices, if it is not skipped
-pub length-small : (j : Job) (k : ℕ) → k < length j.lengths → 3 ≤ get_or j.lengths k 0 → get_or j.lengths k 0 ≤ countV j
-unfolding countV sumOver over
-length-small j k h l = let a = run-least (pointsIn j.lengths) (length j.lengths - 0) 0 k (omega arith) (omega arith) in rw (le-leb 3 (get_or j.lengths k 0) l) at a
+pub length_small : (j : Job) (k : ℕ) → k < length j.lengths → 3 ≤ get_or j.lengths k 0 → get_or j.lengths k 0 ≤ count_v j
+unfolding count_v sum_over over
+length_small j k h l = let a = run_least (points_in j.lengths) (length j.lengths - 0) 0 k (omega arith) (omega arith) in rw (le-leb 3 (get_or j.lengths k 0) l) at a
 
 -- T is 0, or smaller than V by two at least
-run-two : (f g : ℕ → ℕ) → ((k : ℕ) → (f k ≡ 0) ⊎ (f k + 2 ≤ g k)) → ((k : ℕ) → f k ≤ g k) → (m i : ℕ)
+run_two : (f g : ℕ → ℕ) → ((k : ℕ) → (f k ≡ 0) ⊎ (f k + 2 ≤ g k)) → ((k : ℕ) → f k ≤ g k) → (m i : ℕ)
     → (run 0 ◌+◌ f i m ≡ 0) ⊎ (run 0 ◌+◌ f i m + 2 ≤ run 0 ◌+◌ g i m)
 unfolding run
-run-two f g two le zero i = inl refl
-run-two f g two le (suc m) i =
-    let h = run-mono f g le m (suc i) in
+run_two f g two le zero i = inl refl
+run_two f g two le (suc m) i =
+    let h = run_mono f g le m (suc i) in
     ⊎_elim
     (λ (a : f i ≡ 0). ⊎_elim
     (λ (b : run 0 ◌+◌ f (suc i) m ≡ 0). inl (omega arith))
     (λ (b : run 0 ◌+◌ f (suc i) m + 2 ≤ run 0 ◌+◌ g (suc i) m). inr (omega arith))
-    (run-two f g two le m (suc i)))
+    (run_two f g two le m (suc i)))
     (λ (a : f i + 2 ≤ g i). inr (omega arith))
     (two i)
 
-pub T-far-below-V : (j : Job) → (count_t j ≡ 0) ⊎ (count_t j + 2 ≤ countV j)
-unfolding count_t countV sumOver over
-T-far-below-V j = run-two (trianglesIn j.lengths) (pointsIn j.lengths) (λ k. two (get_or j.lengths k 0)) (λ k. less (leb 3 (get_or j.lengths k 0)) (get_or j.lengths k 0)) (length j.lengths - 0) 0
+pub T-far-below-V : (j : Job) → (count_t j ≡ 0) ⊎ (count_t j + 2 ≤ count_v j)
+unfolding count_t count_v sum_over over
+T-far-below-V j = run_two (triangles_in j.lengths) (points_in j.lengths) (λ k. two (get_or j.lengths k 0)) (λ k. less (leb 3 (get_or j.lengths k 0)) (get_or j.lengths k 0)) (length j.lengths - 0) 0
   where
     two : (n : ℕ) → (cond (leb 3 n) (n - 2) 0 ≡ 0) ⊎ (cond (leb 3 n) (n - 2) 0 + 2 ≤ cond (leb 3 n) n 0)
     two n = ⊎_elim
         (λ (h : n < 3). inl (rw (lt-leb 3 n h) refl))
         (λ (h : 3 ≤ n). inr (rw (le-leb 3 n h) (omega arith)))
-        (lt-or-le n 3)
+        (lt_or_le n 3)
 
     less : (b : Bool) (n : ℕ) → cond b (n - 2) 0 ≤ cond b n 0
     less true n = omega arith
     less false n = omega arith
 
-pub T-below-V : (j : Job) → count_t j ≤ countV j
-T-below-V j = ⊎_elim (λ (e : count_t j ≡ 0). omega arith) (λ (h : count_t j + 2 ≤ countV j). omega arith) (T-far-below-V j)
+pub T-below-V : (j : Job) → count_t j ≤ count_v j
+T-below-V j = ⊎_elim (λ (e : count_t j ≡ 0). omega arith) (λ (h : count_t j + 2 ≤ count_v j). omega arith) (T-far-below-V j)
 
 -- V is at most what the lengths say
-pub V-below-all : (j : Job) → countV j ≤ countAll j
-unfolding countV countAll sumOver over
-V-below-all j = run-mono (pointsIn j.lengths) (λ k. get_or j.lengths k 0) (λ k. less (leb 3 (get_or j.lengths k 0)) (get_or j.lengths k 0)) (length j.lengths - 0) 0
+pub V-below-all : (j : Job) → count_v j ≤ count_all j
+unfolding count_v count_all sum_over over
+V-below-all j = run_mono (points_in j.lengths) (λ k. get_or j.lengths k 0) (λ k. less (leb 3 (get_or j.lengths k 0)) (get_or j.lengths k 0)) (length j.lengths - 0) 0
   where
     less : (b : Bool) (n : ℕ) → cond b n 0 ≤ n
     less true n = omega arith

@@ -1,5 +1,5 @@
 -- Request 12, as it is called: the doubled area of the job that stands in the buffers after the call is what it was. Assumes nothing.
--- Key: `mend-keeps-job-area`, the statement of `rules`; `kept-vertices`: the words of the points that are kept are read as these points.
+-- Key: `mend_keeps_job_area`, the statement of `rules`; `kept_vertices`: the words of the points that are kept are read as these points.
 use Rattle.std.specs.Prelude.{ℕ, ◌+◌, ◌*◌, ◌≡◌, Bool, List, [], ◌∷◌, ◌++◌, map, length, replicate, ◌+ℤ◌}
 use Rattle.std.proofs.Common.{arith, sym, ◌∙◌, ap, ap₂, append_assoc}
 use Rattle.std.proofs.Math.Path.{refl}
@@ -7,90 +7,90 @@ use Rattle.std.proofs.Math.Bool.{true, false}
 use Rattle.std.proofs.lemmas.Simd.{map-map}
 use Rattle.std.proofs.Math.ListN.{length-append}
 use Rattle.std.proofs.Math.Seq.{get_or-append-add, get_or-append_seam}
-use Rattle.mem.specs.Packed.{every_of, packed, length-packed}
-use Rattle.mem.specs.Tab.{tab, tab-cons, tab-cong}
-use Rattle.rules.specs.Plane.{onPlane, area}
-use Rattle.rules.specs.Job.{jobStride, vertexAt, flagAt, contourVertices}
-use Rattle.rules.specs.Areas.{contourAreas}
-use Rattle.rules.specs.Mend.{Traced, noTraced, traced, standsAt, tracePlaces, Mending, mended}
-use Rattle.rules.specs.MendCall.{MendLent, tracedFrom, mendedJob, keptLengths, lostNumbers, tracedWords, keptWords}
+use Rattle.mem.specs.Packed.{every_of, packed, length_packed}
+use Rattle.mem.specs.Tab.{tab, tab_cons, tab_cong}
+use Rattle.rules.specs.Plane.{on_plane, area}
+use Rattle.rules.specs.Job.{job_stride, vertex_at, flag_at, contour_vertices}
+use Rattle.rules.specs.Areas.{contour_areas}
+use Rattle.rules.specs.Mend.{Traced, no_traced, traced, stands_at, trace_places, Mending, mended}
+use Rattle.rules.specs.MendCall.{MendLent, traced_from, mended_job, kept_lengths, lost_numbers, traced_words, kept_words}
 use Rattle.rules.specs.MendCall.{MendOutcome, notWhole, lengthsDisagree, shortScratch, listFull, mends}
-use Rattle.rules.specs.MendCall.{areWhole, lengthsAgree, isShortScratch, isListFull, mendOutcome, mendedNumbers, mendExitOf, mendExit, MendKeepsJobArea}
-use Rattle.laws.specs.Lists.{map-tab}
-use Rattle.laws.specs.Mend.{mend-keeps-area}
+use Rattle.rules.specs.MendCall.{are_whole, lengths_agree, is_short_scratch, is_list_full, mend_outcome, mended_numbers, mend_exit_of, mend_exit, MendKeepsJobArea}
+use Rattle.laws.specs.Lists.{map_tab}
+use Rattle.laws.specs.Mend.{mend_keeps_area}
 
 -- ---- the vertices of a contour
 
 -- as they are traced
-traced-places : (ns : List ℕ) (first n : ℕ) → map onPlane (contourVertices ns first n) ≡ tracePlaces (traced ns first n)
-unfolding contourVertices tracePlaces traced
-traced-places ns first n = map-tab onPlane (λ k. vertexAt ns (first + k)) n
-    ∙ sym (map-tab standsAt (λ k. record { number = first + k; vertex = vertexAt ns (first + k); flag = flagAt ns (first + k) }) n)
+traced_places : (ns : List ℕ) (first n : ℕ) → map on_plane (contour_vertices ns first n) ≡ trace_places (traced ns first n)
+unfolding contour_vertices trace_places traced
+traced_places ns first n = map_tab on_plane (λ k. vertex_at ns (first + k)) n
+    ∙ sym (map_tab stands_at (λ k. record { number = first + k; vertex = vertex_at ns (first + k); flag = flag_at ns (first + k) }) n)
 
 -- as they are read from the words of points: the words p come first, which are those of `first` vertices, and others come behind
-module _ (p : List ℕ) (first : ℕ) (e : length p ≡ first * jobStride) where
-  kept-vertex : (t : Traced) (q : List ℕ) → vertexAt (p ++ (tracedWords t ++ q)) first ≡ t.vertex
-  unfolding vertexAt tracedWords
-  kept-vertex t q = rw (← e, get_or-append-add p (tracedWords t ++ q) 1 0, get_or-append-add p (tracedWords t ++ q) 2 0, get_or-append_seam p) refl
+module _ (p : List ℕ) (first : ℕ) (e : length p ≡ first * job_stride) where
+  kept_vertex : (t : Traced) (q : List ℕ) → vertex_at (p ++ (traced_words t ++ q)) first ≡ t.vertex
+  unfolding vertex_at traced_words
+  kept_vertex t q = rw (← e, get_or-append-add p (traced_words t ++ q) 1 0, get_or-append-add p (traced_words t ++ q) 2 0, get_or-append_seam p) refl
 
-  one_more : (t : Traced) → length (p ++ tracedWords t) ≡ (first + 1) * jobStride
-  unfolding tracedWords
-  one_more t = omega (arith, length-append p (tracedWords t))
+  one_more : (t : Traced) → length (p ++ traced_words t) ≡ (first + 1) * job_stride
+  unfolding traced_words
+  one_more t = omega (arith, length-append p (traced_words t))
 
-pub kept-vertices : (p : List ℕ) (first : ℕ) (ps : List Traced) (q : List ℕ) → length p ≡ first * jobStride
-    → contourVertices (p ++ (packed tracedWords ps ++ q)) first (length ps) ≡ map (λ t. t.vertex) ps
-unfolding contourVertices packed tab
-kept-vertices p first [] q e = refl
-kept-vertices p first (t ∷ ps) q e =
-    let w = tracedWords t in
-    let rest = packed tracedWords ps ++ q in
+pub kept_vertices : (p : List ℕ) (first : ℕ) (ps : List Traced) (q : List ℕ) → length p ≡ first * job_stride
+    → contour_vertices (p ++ (packed traced_words ps ++ q)) first (length ps) ≡ map (λ t. t.vertex) ps
+unfolding contour_vertices packed tab
+kept_vertices p first [] q e = refl
+kept_vertices p first (t ∷ ps) q e =
+    let w = traced_words t in
+    let rest = packed traced_words ps ++ q in
     let z : first + 0 ≡ first = omega arith in
-    ap (λ (l : List ℕ). tab (λ k. vertexAt (p ++ l) (first + k)) (length (t ∷ ps))) (append_assoc w (packed tracedWords ps) q)
-    ∙ tab-cons (λ k. vertexAt (p ++ (w ++ rest)) (first + k)) (length ps)
-    ∙ ap₂ ◌∷◌ (ap (vertexAt (p ++ (w ++ rest))) z ∙ kept-vertex p first e t rest)
-    (tab-cong _ _ (length ps) (λ i h. ap₂ vertexAt (sym (append_assoc p w rest)) (omega arith))
-    ∙ kept-vertices (p ++ w) (first + 1) ps q (one_more p first e t))
+    ap (λ (l : List ℕ). tab (λ k. vertex_at (p ++ l) (first + k)) (length (t ∷ ps))) (append_assoc w (packed traced_words ps) q)
+    ∙ tab_cons (λ k. vertex_at (p ++ (w ++ rest)) (first + k)) (length ps)
+    ∙ ap₂ ◌∷◌ (ap (vertex_at (p ++ (w ++ rest))) z ∙ kept_vertex p first e t rest)
+    (tab_cong _ _ (length ps) (λ i h. ap₂ vertex_at (sym (append_assoc p w rest)) (omega arith))
+    ∙ kept_vertices (p ++ w) (first + 1) ps q (one_more p first e t))
 
-kept-places : (p : List ℕ) (first : ℕ) (ps : List Traced) (q : List ℕ) → length p ≡ first * jobStride
-    → map onPlane (contourVertices (p ++ (packed tracedWords ps ++ q)) first (length ps)) ≡ tracePlaces ps
-unfolding tracePlaces
-kept-places p first ps q e = ap (map onPlane) (kept-vertices p first ps q e) ∙ map-map onPlane (λ t. t.vertex) ps
+kept_places : (p : List ℕ) (first : ℕ) (ps : List Traced) (q : List ℕ) → length p ≡ first * job_stride
+    → map on_plane (contour_vertices (p ++ (packed traced_words ps ++ q)) first (length ps)) ≡ trace_places ps
+unfolding trace_places
+kept_places p first ps q e = ap (map on_plane) (kept_vertices p first ps q e) ∙ map-map on_plane (λ t. t.vertex) ps
 
-length-words : (ps : List Traced) → length (packed tracedWords ps) ≡ length ps * jobStride
-unfolding tracedWords
-length-words ps = length-packed tracedWords jobStride (λ t. Unit {0}) noTraced (λ t h. refl) ps (every_of (λ t. Unit {0}) noTraced ps (λ i. tt))
+length_words : (ps : List Traced) → length (packed traced_words ps) ≡ length ps * job_stride
+unfolding traced_words
+length_words ps = length_packed traced_words job_stride (λ t. Unit {0}) no_traced (λ t h. refl) ps (every_of (λ t. Unit {0}) no_traced ps (λ i. tt))
 
 -- ---- all contours, from the vertex `first` on
-abbrev mendedFrom : List ℕ → ℕ → List ℕ → List Mending
-mendedFrom ns first ls = map mended (tracedFrom ns first ls)
+abbrev mended_from : List ℕ → ℕ → List ℕ → List Mending
+mended_from ns first ls = map mended (traced_from ns first ls)
 
 -- behind the words p, which are those of `at` vertices, the mended ones have the area that they had
-areas-kept : (p : List ℕ) (at : ℕ) (ns : List ℕ) (first : ℕ) (ls : List ℕ) (q : List ℕ) → length p ≡ at * jobStride
-    → contourAreas (p ++ (keptWords (mendedFrom ns first ls) ++ q)) at (keptLengths (mendedFrom ns first ls)) ≡ contourAreas ns first ls
-unfolding contourAreas keptWords keptLengths tracedFrom packed
-areas-kept p at ns first [] q e = refl
-areas-kept p at ns first (n ∷ ls) q e =
+areas_kept : (p : List ℕ) (at : ℕ) (ns : List ℕ) (first : ℕ) (ls : List ℕ) (q : List ℕ) → length p ≡ at * job_stride
+    → contour_areas (p ++ (kept_words (mended_from ns first ls) ++ q)) at (kept_lengths (mended_from ns first ls)) ≡ contour_areas ns first ls
+unfolding contour_areas kept_words kept_lengths traced_from packed
+areas_kept p at ns first [] q e = refl
+areas_kept p at ns first (n ∷ ls) q e =
     let ps = (mended (traced ns first n)).points in
-    let w = packed tracedWords ps in
-    let ms = mendedFrom ns (first + n) ls in
-    let rest = keptWords ms ++ q in
-    ap (λ (l : List ℕ). contourAreas (p ++ l) at (length ps ∷ keptLengths ms)) (append_assoc w (keptWords ms) q)
+    let w = packed traced_words ps in
+    let ms = mended_from ns (first + n) ls in
+    let rest = kept_words ms ++ q in
+    ap (λ (l : List ℕ). contour_areas (p ++ l) at (length ps ∷ kept_lengths ms)) (append_assoc w (kept_words ms) q)
     ∙ ap₂ ◌+ℤ◌
-    (ap area (kept-places p at ps rest e) ∙ mend-keeps-area (traced ns first n) ∙ ap area (sym (traced-places ns first n)))
-    (ap (λ (l : List ℕ). contourAreas l (at + length ps) (keptLengths ms)) (sym (append_assoc p w rest))
-    ∙ areas-kept (p ++ w) (at + length ps) ns (first + n) ls q (omega (arith, length-append p w, length-words ps)))
+    (ap area (kept_places p at ps rest e) ∙ mend_keeps_area (traced ns first n) ∙ ap area (sym (traced_places ns first n)))
+    (ap (λ (l : List ℕ). contour_areas l (at + length ps) (kept_lengths ms)) (sym (append_assoc p w rest))
+    ∙ areas_kept (p ++ w) (at + length ps) ns (first + n) ls q (omega (arith, length-append p w, length_words ps)))
 
 -- ---- the call: what holds of each refusal, and of the mended job, holds of what it comes to
 module _ (P : MendOutcome → Type 0) (b : MendLent) where
-  outcome-ind : P notWhole → P lengthsDisagree → P shortScratch → P listFull → P (mends (mendedJob b.lengths b.numbers)) → P (mendOutcome b)
-  unfolding mendOutcome
-  outcome-ind w d s f m = go (areWhole b.numbers) (lengthsAgree b.lengths b.numbers) (isShortScratch b) (isListFull b)
+  outcome_ind : P notWhole → P lengthsDisagree → P shortScratch → P listFull → P (mends (mended_job b.lengths b.numbers)) → P (mend_outcome b)
+  unfolding mend_outcome
+  outcome_ind w d s f m = go (are_whole b.numbers) (lengths_agree b.lengths b.numbers) (is_short_scratch b) (is_list_full b)
     where
       go : (i j k l : Bool) → P (elim i [
         | false ↦ notWhole
         | true ↦ elim j [
           | false ↦ lengthsDisagree
-          | true ↦ elim k [ true ↦ shortScratch | false ↦ elim l [ true ↦ listFull | false ↦ mends (mendedJob b.lengths b.numbers) ] ]
+          | true ↦ elim k [ true ↦ shortScratch | false ↦ elim l [ true ↦ listFull | false ↦ mends (mended_job b.lengths b.numbers) ] ]
         ]
       ])
       go false j k l = w
@@ -99,9 +99,9 @@ module _ (P : MendOutcome → Type 0) (b : MendLent) where
       go true true false true = f
       go true true false false = m
 
-pub mend-keeps-job-area : MendKeepsJobArea
-unfolding mendExit mendExitOf mendedNumbers mendedJob
-mend-keeps-job-area b =
-    outcome-ind (λ (o : MendOutcome). contourAreas (mendExitOf b o).numbers 0 (mendExitOf b o).lengths ≡ contourAreas b.numbers 0 b.lengths) b
+pub mend_keeps_job_area : MendKeepsJobArea
+unfolding mend_exit mend_exit_of mended_numbers mended_job
+mend_keeps_job_area b =
+    outcome_ind (λ (o : MendOutcome). contour_areas (mend_exit_of b o).numbers 0 (mend_exit_of b o).lengths ≡ contour_areas b.numbers 0 b.lengths) b
     refl refl refl refl
-    (areas-kept [] 0 b.numbers 0 b.lengths (replicate (length (lostNumbers (mendedJob b.lengths b.numbers)) * jobStride) 0) refl)
+    (areas_kept [] 0 b.numbers 0 b.lengths (replicate (length (lost_numbers (mended_job b.lengths b.numbers)) * job_stride) 0) refl)

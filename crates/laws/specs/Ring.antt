@@ -1,63 +1,63 @@
 -- Places in a ring: the next one and the one before; and the corner that goes when an ear is cut. Assumes nothing.
--- Key: `area-without`: the area of a list is that of the triangle at any place and of the list without the place after it.
+-- Key: `area_without`: the area of a list is that of the triangle at any place and of the list without the place after it.
 use Rattle.std.specs.Prelude.{ℕ, suc, ◌+◌, ◌-◌, ◌%◌, ◌≤◌, ◌<◌, ◌≡◌, refl, ◌≢◌, List, [], ◌∷◌, ◌++◌, length, take, drop, get_or, ◌+ℤ◌}
 use Rattle.std.proofs.Common.{mod-eq_of_lt, sym, ◌∙◌, ap, ap₂, ⊎_elim, append-nil, lt-ltb, le-ltb, le-leb, drop_of_length-le, take-suc, drop-cons}
 use Rattle.std.proofs.Math.Nat.{mod-eq-sub-mod}
 use native.Mathlib.Omega.{arith}
 use Rattle.std.proofs.lemmas.Bool.{lt-leb}
 use Rattle.std.proofs.Math.Seq.{length-take-le, take_all, take-add, drop_at}
-use Rattle.mem.specs.Cases.{lt-or-le}
+use Rattle.mem.specs.Cases.{lt_or_le}
 use Rattle.rules.specs.declared.Point.{Point}
 use Rattle.rules.specs.Plane.{D, area}
 use Rattle.rules.specs.Lists.{next, prev, without}
 use Rattle.rules.specs.Sentences.{NextIsRemainder, PrevIsRemainder}
 use Rattle.rules.specs.Outlines.{arc}
-use Rattle.laws.specs.Sides.{area-triangle}
-use Rattle.laws.specs.Outlines.{turned-append, turned-area, cut-area}
+use Rattle.laws.specs.Sides.{area_triangle}
+use Rattle.laws.specs.Outlines.{turned_append, turned_area, cut_area_lem}
 
-pub next-in : (i n : ℕ) → i + 1 < n → next i n ≡ i + 1
+pub next_in : (i n : ℕ) → i + 1 < n → next i n ≡ i + 1
 unfolding next
-next-in i n h = rw (lt-ltb (i + 1) n h)
+next_in i n h = rw (lt-ltb (i + 1) n h)
 
-pub next-out : (i n : ℕ) → n ≤ i + 1 → next i n ≡ 0
+pub next_out : (i n : ℕ) → n ≤ i + 1 → next i n ≡ 0
 unfolding next
-next-out i n h = rw (le-ltb (i + 1) n h)
+next_out i n h = rw (le-ltb (i + 1) n h)
 
-pub next-below : (i n : ℕ) → 0 < n → next i n < n
-next-below i n h = ⊎_elim (λ (k : i + 1 < n). rw (next-in i n k) k) (λ (k : n ≤ i + 1). rw (next-out i n k) h) (lt-or-le (i + 1) n)
+pub next_below : (i n : ℕ) → 0 < n → next i n < n
+next_below i n h = ⊎_elim (λ (k : i + 1 < n). rw (next_in i n k) k) (λ (k : n ≤ i + 1). rw (next_out i n k) h) (lt_or_le (i + 1) n)
 
-pub next-other : (i n : ℕ) → 2 ≤ n → next i n ≢ i
-next-other i n h e = ⊎_elim (λ (k : i + 1 < n). omega (arith, next-in i n k)) (λ (k : n ≤ i + 1). omega (arith, next-out i n k)) (lt-or-le (i + 1) n)
+pub next_other : (i n : ℕ) → 2 ≤ n → next i n ≢ i
+next_other i n h e = ⊎_elim (λ (k : i + 1 < n). omega (arith, next_in i n k)) (λ (k : n ≤ i + 1). omega (arith, next_out i n k)) (lt_or_le (i + 1) n)
 
 -- ---- places as remainders
-pub mod-once : (x n : ℕ) → n ≤ x → x < n + n → x % n ≡ x - n
-mod-once x n h k = mod-eq-sub-mod h ∙ mod-eq_of_lt (omega arith)
+pub mod_once : (x n : ℕ) → n ≤ x → x < n + n → x % n ≡ x - n
+mod_once x n h k = mod-eq-sub-mod h ∙ mod-eq_of_lt (omega arith)
 
-pub next-remainder : NextIsRemainder
-next-remainder i n h = ⊎_elim
-    (λ (k : i + 1 < n). next-in i n k ∙ sym (mod-eq_of_lt k))
-    (λ (k : n ≤ i + 1). next-out i n k ∙ sym (mod-once (i + 1) n k (omega arith) ∙ omega arith))
-    (lt-or-le (i + 1) n)
+pub next_remainder : NextIsRemainder
+next_remainder i n h = ⊎_elim
+    (λ (k : i + 1 < n). next_in i n k ∙ sym (mod-eq_of_lt k))
+    (λ (k : n ≤ i + 1). next_out i n k ∙ sym (mod_once (i + 1) n k (omega arith) ∙ omega arith))
+    (lt_or_le (i + 1) n)
 
-prev-in : (i n : ℕ) → 1 ≤ i → prev i n ≡ i - 1
+prev_in : (i n : ℕ) → 1 ≤ i → prev i n ≡ i - 1
 unfolding prev
-prev-in i n h = rw (le-leb 1 i h)
+prev_in i n h = rw (le-leb 1 i h)
 
-prev-out : (i n : ℕ) → i < 1 → prev i n ≡ n - 1
+prev_out : (i n : ℕ) → i < 1 → prev i n ≡ n - 1
 unfolding prev
-prev-out i n h = rw (lt-leb 1 i h)
+prev_out i n h = rw (lt-leb 1 i h)
 
-pub prev-below : (i n : ℕ) → i < n → prev i n < n
-prev-below i n h = ⊎_elim
-    (λ (k : i < 1). rw (prev-out i n k) (omega arith))
-    (λ (k : 1 ≤ i). rw (prev-in i n k) (omega arith))
-    (lt-or-le i 1)
+pub prev_below : (i n : ℕ) → i < n → prev i n < n
+prev_below i n h = ⊎_elim
+    (λ (k : i < 1). rw (prev_out i n k) (omega arith))
+    (λ (k : 1 ≤ i). rw (prev_in i n k) (omega arith))
+    (lt_or_le i 1)
 
-pub prev-remainder : PrevIsRemainder
-prev-remainder i n h = ⊎_elim
-    (λ (k : i < 1). let e : i + n - 1 ≡ n - 1 = omega arith in rw (prev-out i n k, e) (sym (mod-eq_of_lt (omega arith))))
-    (λ (k : 1 ≤ i). prev-in i n k ∙ sym (mod-once (i + n - 1) n (omega arith) (omega arith) ∙ omega arith))
-    (lt-or-le i 1)
+pub prev_remainder : PrevIsRemainder
+prev_remainder i n h = ⊎_elim
+    (λ (k : i < 1). let e : i + n - 1 ≡ n - 1 = omega arith in rw (prev_out i n k, e) (sym (mod-eq_of_lt (omega arith))))
+    (λ (k : 1 ≤ i). prev_in i n k ∙ sym (mod_once (i + n - 1) n (omega arith) (omega arith) ∙ omega arith))
+    (lt_or_le i 1)
 
 -- ---- an ear, at any place of the ring: cut between the place i and the one after next, c; a is the place between them, which goes
 record EarAt {A : Type 0} (l : List A) (d : A) (i a c : ℕ) : Type 0 where
@@ -111,25 +111,25 @@ module _ {A : Type 0} (l : List A) (d : A) where
         different = λ e. absurd (omega arith);
       }
 
-  ear-at : (i : ℕ) → 3 ≤ length l → i < length l → EarAt l d i (next i (length l)) (next (next i (length l)) (length l))
-  ear-at i h k = ⊎_elim
+  ear_at : (i : ℕ) → 3 ≤ length l → i < length l → EarAt l d i (next i (length l)) (next (next i (length l)) (length l))
+  ear_at i h k = ⊎_elim
       (λ (e : i + 2 < length l). let q : i + 1 + 1 ≡ i + 2 = omega arith in
-      rw (next-in i (length l) (omega arith), next-in (i + 1) (length l) (omega arith), q) (middle i e))
+      rw (next_in i (length l) (omega arith), next_in (i + 1) (length l) (omega arith), q) (middle i e))
       (λ (e : length l ≤ i + 2). ⊎_elim
-      (λ (f : i + 1 < length l). rw (next-in i (length l) f, next-out (i + 1) (length l) (omega arith)) (last i (omega arith) (omega arith)))
-      (λ (f : length l ≤ i + 1). rw (next-out i (length l) f, next-in 0 (length l) (omega arith)) (first i (omega arith) (omega arith)))
-      (lt-or-le (i + 1) (length l)))
-      (lt-or-le (i + 2) (length l))
+      (λ (f : i + 1 < length l). rw (next_in i (length l) f, next_out (i + 1) (length l) (omega arith)) (last i (omega arith) (omega arith)))
+      (λ (f : length l ≤ i + 1). rw (next_out i (length l) f, next_in 0 (length l) (omega arith)) (first i (omega arith) (omega arith)))
+      (lt_or_le (i + 1) (length l)))
+      (lt_or_le (i + 2) (length l))
 
-pub area-without : (l : List Point) (i : ℕ) (d : Point) → 3 ≤ length l → i < length l
+pub area_without : (l : List Point) (i : ℕ) (d : Point) → 3 ≤ length l → i < length l
     → area l ≡ D (get_or l i d) (get_or l (next i (length l)) d) (get_or l (next (next i (length l)) (length l)) d) +ℤ area (without l (next i (length l)))
 unfolding without
-area-without l i d h k =
+area_without l i d h k =
     let a = next i (length l) in
     let c = next a (length l) in
-    let s = ear-at l d i h k in
-    let below = next-below i (length l) (omega arith) in
-    sym (cut-area l i c k (next-below a (length l) (omega arith)) s.different)
+    let s = ear_at l d i h k in
+    let below = next_below i (length l) (omega arith) in
+    sym (cut_area_lem l i c k (next_below a (length l) (omega arith)) s.different)
     ∙ ap₂ ◌+ℤ◌
-    (ap area s.ear ∙ area-triangle (get_or l i d) (get_or l a d) (get_or l c d))
-    (ap area (s.rest ∙ sym (turned-append (take a l) (drop (a + 1) l) a (length-take-le a l (omega (arith, below))))) ∙ turned-area (without l a) a)
+    (ap area s.ear ∙ area_triangle (get_or l i d) (get_or l a d) (get_or l c d))
+    (ap area (s.rest ∙ sym (turned_append (take a l) (drop (a + 1) l) a (length-take-le a l (omega (arith, below))))) ∙ turned_area (without l a) a)

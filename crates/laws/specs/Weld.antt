@@ -12,25 +12,25 @@ use Rattle.std.proofs.Math.ListN.{get_or-append}
 use Rattle.std.proofs.lemmas.List.{get_or_at}
 use Rattle.ints.specs.Bools.{and_left, and_right}
 use Rattle.mem.specs.Loops.{each_at}
-use Rattle.mem.specs.Packed.{every-at, every_of, every_append}
+use Rattle.mem.specs.Packed.{every_at, every_of, every_append}
 use Rattle.rules.specs.declared.Vertex.{Vertex}
 use Rattle.rules.specs.declared.Found.{Found}
 use Rattle.rules.specs.declared.Found.TheVariants.{At, Nothing}
-use Rattle.rules.specs.Plane.{onPlane, InGrid}
+use Rattle.rules.specs.Plane.{on_plane, InGrid}
 use Rattle.rules.specs.Lists.{when, or_else, down, apart}
-use Rattle.rules.specs.Weld.{noVertex, isSame, highestBelow, numberOr, number_of, Welded, flagged, addVertex, weldOne, weldAll}
+use Rattle.rules.specs.Weld.{no_vertex, is_same, highest_below, number_or, number_of, Welded, flagged, add_vertex, weld_one, weld_all}
 use Rattle.rules.specs.Mesh.{place_of}
 use Rattle.laws.specs.Lists
-use Rattle.laws.specs.Lists.{All, all_append, all-imp, every-of-all}
+use Rattle.laws.specs.Lists.{All, all_append, all_imp, every_of_all}
 
 -- ---- the number that a vertex takes
 -- number n of the vertices vs stands where v stands
 pub record Took (vs : List Vertex) (n : ℕ) (v : Vertex) : Type 0 where
   pub below : n < length vs
-  pub place : place_of vs n ≡ onPlane v
+  pub place : place_of vs n ≡ on_plane v
 
-pub same_place : (height : ℕ) (w v : Vertex) → isSame height w v ≡ true → onPlane w ≡ onPlane v
-unfolding isSame
+pub same_place : (height : ℕ) (w v : Vertex) → is_same height w v ≡ true → on_plane w ≡ on_plane v
+unfolding is_same
 same_place height w v e =
     let r = and_right (eqb w.x v.x) (leb (apart w.y v.y) height && eqb w.z v.z) e in
     ap₂ (λ (a b : ℕ). record { x = a; z = b })
@@ -39,47 +39,47 @@ same_place height w v e =
 
 module _ (height : ℕ) (vs : List Vertex) (v : Vertex) where
   Fits : ℕ → Found → Type 0
-  Fits n (At k) = (k < n) × (isSame height (get_or vs k noVertex) v ≡ true)
+  Fits n (At k) = (k < n) × (is_same height (get_or vs k no_vertex) v ≡ true)
   Fits n Nothing = Unit
 
-  fits_or : (k : ℕ) (b : Bool) (r : Found) → isSame height (get_or vs k noVertex) v ≡ b → Fits k r → Fits (suc k) (or_else (when b k) r)
+  fits_or : (k : ℕ) (b : Bool) (r : Found) → is_same height (get_or vs k no_vertex) v ≡ b → Fits k r → Fits (suc k) (or_else (when b k) r)
   unfolding Fits or_else when
   fits_or k true r e h = (omega arith, e)
   fits_or k false (At j) e h = (omega (arith, h.0), h.1)
   fits_or k false Nothing e h = tt
 
-  fits : (n : ℕ) → Fits n (highestBelow height vs v n)
-  unfolding Fits highestBelow down
+  fits : (n : ℕ) → Fits n (highest_below height vs v n)
+  unfolding Fits highest_below down
   fits zero = tt
-  fits (suc n) = fits_or n (isSame height (get_or vs n noVertex) v) (highestBelow height vs v n) refl (fits n)
+  fits (suc n) = fits_or n (is_same height (get_or vs n no_vertex) v) (highest_below height vs v n) refl (fits n)
 
   -- what is found is below n
-  pub found_below : (n k : ℕ) → At k ≡ highestBelow height vs v n → k < n
+  pub found_below : (n k : ℕ) → At k ≡ highest_below height vs v n → k < n
   unfolding Fits
   found_below n k e = (rw (← e) at (fits n)).0
 
-  number-from : (r : Found) → Fits (length vs) r → Took vs (numberOr (length vs) r) v ⊎ (numberOr (length vs) r ≡ length vs)
-  unfolding Fits numberOr place_of
-  number-from (At k) h = inl (record { below = h.0; place = same_place height (get_or vs k noVertex) v h.1 })
-  number-from Nothing h = inr refl
+  number_from : (r : Found) → Fits (length vs) r → Took vs (number_or (length vs) r) v ⊎ (number_or (length vs) r ≡ length vs)
+  unfolding Fits number_or place_of
+  number_from (At k) h = inl (record { below = h.0; place = same_place height (get_or vs k no_vertex) v h.1 })
+  number_from Nothing h = inr refl
 
   -- the number is that of a vertex at v's place, or new
-  pub number-cases : Took vs (number_of height vs v) v ⊎ (number_of height vs v ≡ length vs)
+  pub number_cases : Took vs (number_of height vs v) v ⊎ (number_of height vs v ≡ length vs)
   unfolding number_of
-  number-cases = number-from (highestBelow height vs v (length vs)) (fits (length vs))
+  number_cases = number_from (highest_below height vs v (length vs)) (fits (length vs))
 
 -- ---- one more vertex
 pub took_more : {vs : List Vertex} {n : ℕ} {v : Vertex} (t : List Vertex) → Took vs n v → Took (vs ++ t) n v
 unfolding place_of
-took_more {vs} {n} {v} t h = record { below = omega (arith, h.below, length-append vs t); place = ap onPlane (get_or-append vs t noVertex n h.below) ∙ h.place }
+took_more {vs} {n} {v} t h = record { below = omega (arith, h.below, length-append vs t); place = ap on_plane (get_or-append vs t no_vertex n h.below) ∙ h.place }
 
-took-new : (vs : List Vertex) (v : Vertex) → Took (vs ++ (v ∷ [])) (length vs) v
+took_new : (vs : List Vertex) (v : Vertex) → Took (vs ++ (v ∷ [])) (length vs) v
 unfolding place_of
-took-new vs v = record { below = omega (arith, length-append vs (v ∷ [])); place = ap onPlane (get_or_at vs v [] noVertex (length vs) refl) }
+took_new vs v = record { below = omega (arith, length-append vs (v ∷ [])); place = ap on_plane (get_or_at vs v [] no_vertex (length vs) refl) }
 
-length-flagged : (flag k : ℕ) (marks : List ℕ) → length (flagged flag k marks) ≡ length marks
+length_flagged : (flag k : ℕ) (marks : List ℕ) → length (flagged flag k marks) ≡ length marks
 unfolding flagged
-length-flagged flag k marks = go (eqb flag 1)
+length_flagged flag k marks = go (eqb flag 1)
   where
     go : (b : Bool) → length (cond b (set marks k 1) marks) ≡ length marks
     go true = length-set marks k 1
@@ -96,14 +96,14 @@ pub record Added (v : Vertex) (s t : Welded) : Type 0 where
   pub listed : t.numbers ≡ s.numbers ++ (number ∷ [])
   pub marked : length s.marks ≡ length s.vertices → length t.marks ≡ length t.vertices
 
-pub vertex-added : (height : ℕ) (v : Vertex) (flag : ℕ) (s : Welded) → Added v s (addVertex height v flag s)
-unfolding addVertex
-vertex-added height v flag s = ⊎_elim old new (number-cases height s.vertices v)
+pub vertex_added : (height : ℕ) (v : Vertex) (flag : ℕ) (s : Welded) → Added v s (add_vertex height v flag s)
+unfolding add_vertex
+vertex_added height v flag s = ⊎_elim old new (number_cases height s.vertices v)
   where
     k : ℕ
     k = number_of height s.vertices v
 
-    old : Took s.vertices k v → Added v s (addVertex height v flag s)
+    old : Took s.vertices k v → Added v s (add_vertex height v flag s)
     old h =
         let q : eqb k (length s.vertices) ≡ false = ne_eqb k (length s.vertices) (λ (e : k ≡ length s.vertices). omega (arith, h.below)) in
         rw q (record {
@@ -114,10 +114,10 @@ vertex-added height v flag s = ⊎_elim old new (number-cases height s.vertices 
           number = k;
           took = h;
           listed = refl;
-          marked = λ e. length-flagged flag k s.marks ∙ e;
+          marked = λ e. length_flagged flag k s.marks ∙ e;
         })
 
-    new : k ≡ length s.vertices → Added v s (addVertex height v flag s)
+    new : k ≡ length s.vertices → Added v s (add_vertex height v flag s)
     new h =
         let q : eqb k (length s.vertices) ≡ true = eq-eqb k (length s.vertices) h in
         rw q (record {
@@ -126,9 +126,9 @@ vertex-added height v flag s = ⊎_elim old new (number-cases height s.vertices 
           few = omega arith;
           fresh = Lists.more refl Lists.none;
           number = k;
-          took = rw h (took-new s.vertices v);
+          took = rw h (took_new s.vertices v);
           listed = refl;
-          marked = λ e. length-flagged flag k (s.marks ++ (0 ∷ [])) ∙ length-append s.marks (0 ∷ []) ∙ ap (λ (n : ℕ). n + 1) e
+          marked = λ e. length_flagged flag k (s.marks ++ (0 ∷ [])) ∙ length-append s.marks (0 ∷ []) ∙ ap (λ (n : ℕ). n + 1) e
               ∙ sym (length-append s.vertices (v ∷ []));
         })
 
@@ -138,7 +138,7 @@ vertex-added height v flag s = ⊎_elim old new (number-cases height s.vertices 
 pub record OneOf (vs : List Vertex) (i : ℕ) (u : Vertex) : Type 0 where
   pub place : ℕ
   pub below : place < i
-  pub is : u ≡ get_or vs place noVertex
+  pub is : u ≡ get_or vs place no_vertex
 
 -- i vertices of vs are welded to the old ones, and s is what there is now
 pub record Welds (old : List Vertex) (vs : List Vertex) (i : ℕ) (s : Welded) : Type 0 where
@@ -147,30 +147,30 @@ pub record Welds (old : List Vertex) (vs : List Vertex) (i : ℕ) (s : Welded) :
   pub few : length more ≤ i
   pub fresh : All (OneOf vs i) more
   pub listed : length s.numbers ≡ i
-  pub took : (k : ℕ) → k < i → Took s.vertices (get_or s.numbers k 0) (get_or vs k noVertex)
+  pub took : (k : ℕ) → k < i → Took s.vertices (get_or s.numbers k 0) (get_or vs k no_vertex)
   pub marked : length s.marks ≡ length s.vertices
 
-welds-more : (old vs : List Vertex) (i : ℕ) (s t : Welded) → Added (get_or vs i noVertex) s t → Welds old vs i s → Welds old vs (suc i) t
-welds-more old vs i s t a w = record {
+welds_more : (old vs : List Vertex) (i : ℕ) (s t : Welded) → Added (get_or vs i no_vertex) s t → Welds old vs i s → Welds old vs (suc i) t
+welds_more old vs i s t a w = record {
   more = w.more ++ a.more;
   grown = a.grown ∙ ap (λ (l : List Vertex). l ++ a.more) w.grown ∙ append_assoc old w.more a.more;
   few = omega (arith, length-append w.more a.more, w.few, a.few);
   fresh = all_append
-      (all-imp (λ u (o : OneOf vs i u). record { place = o.place; below = omega (arith, o.below); is = o.is }) w.fresh)
-      (all-imp (λ u (e : u ≡ get_or vs i noVertex). record { place = i; below = omega arith; is = e }) a.fresh);
+      (all_imp (λ u (o : OneOf vs i u). record { place = o.place; below = omega (arith, o.below); is = o.is }) w.fresh)
+      (all_imp (λ u (e : u ≡ get_or vs i no_vertex). record { place = i; below = omega arith; is = e }) a.fresh);
   listed = ap length a.listed ∙ length-append s.numbers (a.number ∷ []) ∙ ap (λ (n : ℕ). n + 1) w.listed ∙ add-one i;
-  took = λ k h. rw a.listed (below_more (λ (k : ℕ). Took t.vertices (get_or (s.numbers ++ (a.number ∷ [])) k 0) (get_or vs k noVertex)) i
+  took = λ k h. rw a.listed (below_more (λ (k : ℕ). Took t.vertices (get_or (s.numbers ++ (a.number ∷ [])) k 0) (get_or vs k no_vertex)) i
       (λ k h. rw (get_or-append s.numbers (a.number ∷ []) 0 k (omega (arith, w.listed)), a.grown) (took_more a.more (w.took k h)))
       (rw (get_or_at s.numbers a.number [] 0 i w.listed) a.took) k (omega arith));
   marked = a.marked w.marked;
 }
 
 pub welded : (height : ℕ) (vs : List Vertex) (flags : List ℕ) (s : Welded) → length s.marks ≡ length s.vertices → s.numbers ≡ []
-    → Welds s.vertices vs (length vs) (weldAll height vs flags s)
-unfolding weldAll weldOne
-welded height vs flags s m e = each_at (weldOne height vs flags) (Welds s.vertices vs) (length vs)
-    (λ i t h w. welds-more s.vertices vs i t (addVertex height (get_or vs i noVertex) (get_or flags i 0) t)
-    (vertex-added height (get_or vs i noVertex) (get_or flags i 0) t) w) s
+    → Welds s.vertices vs (length vs) (weld_all height vs flags s)
+unfolding weld_all weld_one
+welded height vs flags s m e = each_at (weld_one height vs flags) (Welds s.vertices vs) (length vs)
+    (λ i t h w. welds_more s.vertices vs i t (add_vertex height (get_or vs i no_vertex) (get_or flags i 0) t)
+    (vertex_added height (get_or vs i no_vertex) (get_or flags i 0) t) w) s
     (record {
       more = [];
       grown = sym (append-nil s.vertices);
@@ -182,16 +182,16 @@ welded height vs flags s m e = each_at (weldOne height vs flags) (Welds s.vertic
     })
 
 -- ---- vertices on the grid stay there: a new vertex is one of the contour's
-pub welded-grid : (height : ℕ) (vs : List Vertex) (flags : List ℕ) (s : Welded) → length s.marks ≡ length s.vertices → s.numbers ≡ []
-    → ((k : ℕ) → InGrid (place_of s.vertices k)) → ((k : ℕ) → k < length vs → InGrid (onPlane (get_or vs k noVertex)))
-    → (k : ℕ) → InGrid (place_of (weldAll height vs flags s).vertices k)
+pub welded_grid : (height : ℕ) (vs : List Vertex) (flags : List ℕ) (s : Welded) → length s.marks ≡ length s.vertices → s.numbers ≡ []
+    → ((k : ℕ) → InGrid (place_of s.vertices k)) → ((k : ℕ) → k < length vs → InGrid (on_plane (get_or vs k no_vertex)))
+    → (k : ℕ) → InGrid (place_of (weld_all height vs flags s).vertices k)
 unfolding place_of
-welded-grid height vs flags s m e old new k =
+welded_grid height vs flags s m e old new k =
     let w = welded height vs flags s m e in
-    rw w.grown (every-at On noVertex (s.vertices ++ w.more)
-    (every_append On noVertex s.vertices w.more (every_of On noVertex s.vertices old)
-    (every-of-all On noVertex (record { x-small = omega arith; z-small = omega arith })
-    (all-imp (λ u (o : OneOf vs (length vs) u). rw o.is (new o.place o.below)) w.fresh))) k)
+    rw w.grown (every_at On no_vertex (s.vertices ++ w.more)
+    (every_append On no_vertex s.vertices w.more (every_of On no_vertex s.vertices old)
+    (every_of_all On no_vertex (record { x_small = omega arith; z_small = omega arith })
+    (all_imp (λ u (o : OneOf vs (length vs) u). rw o.is (new o.place o.below)) w.fresh))) k)
   where
     On : Vertex → Type 0
-    On v = InGrid (onPlane v)
+    On v = InGrid (on_plane v)

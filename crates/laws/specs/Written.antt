@@ -1,6 +1,6 @@
 -- A mesh that is written one thing after the other meets the checker's sentences, if its lists do what they ask: its words read back as they were written.
 -- Assumes nothing.
--- Key: `Meets`, `meets-acceptable`; `polygons-are`, `vertices-are`: how it is read.
+-- Key: `Meets`, `meets_acceptable`; `polygons_are`, `vertices_are`: how it is read.
 use Rattle.std.specs.Prelude.{ℕ, ◌+◌, ◌-◌, ◌*◌, ◌/◌, ◌≤◌, ◌<◌, ◌≡◌, take, drop, replicate}
 use Rattle.std.proofs.Math.Nat.{mul-div_cancel}
 use Rattle.std.proofs.Common.{arith, ◌∙◌, take-take, get_or-append-add}
@@ -8,36 +8,36 @@ use Rattle.std.proofs.Math.Path.{refl, sym, ap}
 use mathlib.Core.List.{List, [], ◌++◌, map}
 use Rattle.std.proofs.Math.ListN.{length, get_or, length-map, get_or-append, get_or-map}
 use Rattle.std.proofs.lemmas.List.{get_or-replicate}
-use Rattle.mem.specs.Slice.{view, getD-view}
+use Rattle.mem.specs.Slice.{view, get_or_view}
 use Rattle.mem.specs.Tab.{tab}
-use Rattle.mem.specs.Packed.{Every, every-at, every_of, packed, packed-view, length-packed}
+use Rattle.mem.specs.Packed.{Every, every_at, every_of, packed, packed_view, length_packed}
 use Rattle.rules.specs.declared.Vertex.{Vertex}
-use Rattle.rules.specs.Plane.{onPlane, InGrid}
-use Rattle.rules.specs.Weld.{noVertex}
-use Rattle.rules.specs.Mesh.{Polygon, noPolygon, polygonAt}
+use Rattle.rules.specs.Plane.{on_plane, InGrid}
+use Rattle.rules.specs.Weld.{no_vertex}
+use Rattle.rules.specs.Mesh.{Polygon, no_polygon, polygon_at}
 use Rattle.rules.specs.Links.{none}
 use Rattle.rules.specs.Portals.{portals}
-use Rattle.rules.specs.Checks.{vertexStride}
-use Rattle.rules.specs.Exits.{vertexWords, padded, cornerWords, vertexOf, storedPolygon, storedLinks, decoded}
-use Rattle.rules.specs.Areas.{sum_of, polygonArea, points_of, storedArea}
-use Rattle.rules.specs.Handed.{Handed, vertexCount, polygonCount, buffersOf, meshIn, cornerWord, linkWord, cornersAt, link_at, lastPortal}
+use Rattle.rules.specs.Checks.{vertex_stride}
+use Rattle.rules.specs.Exits.{vertex_words, padded, corner_words, vertex_of, stored_polygon, stored_links, decoded}
+use Rattle.rules.specs.Areas.{sum_of, polygon_area, points_of, stored_area}
+use Rattle.rules.specs.Handed.{Handed, vertex_count, polygon_count, buffers_of, mesh_in, corner_word, link_word, corners_at, link_at, last_portal}
 use Rattle.rules.specs.Handed.{GoodBuffers, GoodCorners, NamedBack, GoodLinks}
-use Rattle.rules.specs.Checker.{Claim, openLink, GoodPortals, Acceptable}
-use Rattle.laws.specs.Lists.{All, all-at, all-imp, every-of-all, sum-map}
+use Rattle.rules.specs.Checker.{Claim, open_link, GoodPortals, Acceptable}
+use Rattle.laws.specs.Lists.{All, all_at, all_imp, every_of_all, sum_map}
 use Rattle.laws.specs.Merge.{Good, Below}
 use Rattle.laws.specs.Links.{Shaped}
-use Rattle.laws.specs.Widths.{few-polygons}
-use Rattle.laws.specs.Exits.{tab-list, length-padded, up-to-padded, take-padded}
+use Rattle.laws.specs.Widths.{few_polygons}
+use Rattle.laws.specs.Exits.{tab_list, length_padded, up_to_padded, take_padded}
 
 -- ---- a polygon's words: its corners, or its links, and 65,535 behind them
 
-padded-in : (n : ℕ) (cs : List ℕ) (k : ℕ) → k < length cs → get_or (padded n cs) k 0 ≡ get_or cs k 0
+padded_in : (n : ℕ) (cs : List ℕ) (k : ℕ) → k < length cs → get_or (padded n cs) k 0 ≡ get_or cs k 0
 unfolding padded
-padded-in n cs k h = get_or-append cs (replicate (n - length cs) none) 0 k h
+padded_in n cs k h = get_or-append cs (replicate (n - length cs) none) 0 k h
 
-padded-after : (n : ℕ) (cs : List ℕ) (k : ℕ) → length cs ≤ k → k < n → get_or (padded n cs) k 0 ≡ none
+padded_after : (n : ℕ) (cs : List ℕ) (k : ℕ) → length cs ≤ k → k < n → get_or (padded n cs) k 0 ≡ none
 unfolding padded
-padded-after n cs k h l =
+padded_after n cs k h l =
     let e : k ≡ length cs + (k - length cs) = omega arith in
     ap (λ (i : ℕ). get_or (cs ++ replicate (n - length cs) none) i 0) e
     ∙ get_or-append-add cs (replicate (n - length cs) none) (k - length cs) 0
@@ -45,9 +45,9 @@ padded-after n cs k h l =
 
 -- ---- what is proved of a mesh goes by the corners alone
 
-same-corners : (ps qs : List Polygon) (ls : List (List ℕ)) (i j : ℕ) → length qs ≡ length ps → ((i : ℕ) → (polygonAt qs i).corners ≡ (polygonAt ps i).corners)
+same_corners : (ps qs : List Polygon) (ls : List (List ℕ)) (i j : ℕ) → length qs ≡ length ps → ((i : ℕ) → (polygon_at qs i).corners ≡ (polygon_at ps i).corners)
     → NamedBack ps ls i j → NamedBack qs ls i j
-same-corners ps qs ls i j e f n = record {
+same_corners ps qs ls i j e f n = record {
   side = n.side;
   there = rw e n.there;
   other = n.other;
@@ -61,37 +61,37 @@ same-corners ps qs ls i j e f n = record {
 unfoldable pub bare : Polygon → Polygon
 bare p = record { corners = p.corners; region = 0; code = 0 }
 
-pub bare-corners : (ps : List Polygon) (i : ℕ) → (polygonAt (map bare ps) i).corners ≡ (polygonAt ps i).corners
+pub bare_corners : (ps : List Polygon) (i : ℕ) → (polygon_at (map bare ps) i).corners ≡ (polygon_at ps i).corners
 unfolding bare
-bare-corners ps i = ap (λ (p : Polygon). p.corners) (get_or-map bare ps i noPolygon)
+bare_corners ps i = ap (λ (p : Polygon). p.corners) (get_or-map bare ps i no_polygon)
 
 -- ---- a mesh that is written one thing after the other
 
 -- what the checker's sentences ask of a mesh, said of its lists
 pub record Meets (nvp w h border : ℕ) (vs : List Vertex) (ps : List Polygon) (ls : List (List ℕ)) : Type 0 where
-  pub nvp-low : 3 ≤ nvp
-  pub nvp-high : nvp ≤ 12
-  pub few-vertices : length vs ≤ 65535
-  pub few-polygons : length ps ≤ 65535
-  pub grid : All (λ (v : Vertex). InGrid (onPlane v)) vs
+  pub nvp_low : 3 ≤ nvp
+  pub nvp_high : nvp ≤ 12
+  pub few_vertices : length vs ≤ 65535
+  pub few_polygons : length ps ≤ 65535
+  pub grid : All (λ (v : Vertex). InGrid (on_plane v)) vs
   pub good : All (Good (Below (length vs)) nvp) ps
   pub shaped : Shaped ps ls
-  pub named : (i j : ℕ) → i < length ps → j < length (polygonAt ps i).corners → link_at ls i j < none → NamedBack ps ls i j
-  pub opened : (i j : ℕ) → i < length ps → j < length (polygonAt ps i).corners → none ≤ link_at ls i j
-      → link_at ls i j ≡ openLink vs w h border (polygonAt ps i).corners j
-  pub most : (i j : ℕ) → link_at ls i j ≤ lastPortal
+  pub named : (i j : ℕ) → i < length ps → j < length (polygon_at ps i).corners → link_at ls i j < none → NamedBack ps ls i j
+  pub opened : (i j : ℕ) → i < length ps → j < length (polygon_at ps i).corners → none ≤ link_at ls i j
+      → link_at ls i j ≡ open_link vs w h border (polygon_at ps i).corners j
+  pub most : (i j : ℕ) → link_at ls i j ≤ last_portal
 
 module _ (nvp w h border : ℕ) (vs : List Vertex) (ps : List Polygon) (ls : List (List ℕ)) (x : Meets nvp w h border vs ps ls) where
   unfoldable pub written : Handed
   written = record {
     nvp = nvp;
-    vertices = packed vertexWords vs;
-    polygons = packed (cornerWords nvp) ps;
+    vertices = packed vertex_words vs;
+    polygons = packed (corner_words nvp) ps;
     links = packed (padded nvp) ls;
   }
 
   unfoldable pub claimed : Claim
-  claimed = record { mesh = written; w = w; h = h; border = border; total = sum_of (polygonArea vs) ps }
+  claimed = record { mesh = written; w = w; h = h; border = border; total = sum_of (polygon_area vs) ps }
 
   Short : Polygon → Type 0
   Short p = length p.corners ≤ nvp
@@ -102,160 +102,160 @@ module _ (nvp w h border : ℕ) (vs : List Vertex) (ps : List Polygon) (ls : Lis
   AnyVertex : Vertex → Type 0
   AnyVertex v = Unit
 
-  short : Every Short noPolygon ps
+  short : Every Short no_polygon ps
   unfolding Short
-  short = every-of-all (λ (p : Polygon). length p.corners ≤ nvp) noPolygon (omega arith)
-      (all-imp (λ p (g : Good (Below (length vs)) nvp p). g.short) x.good)
+  short = every_of_all (λ (p : Polygon). length p.corners ≤ nvp) no_polygon (omega arith)
+      (all_imp (λ p (g : Good (Below (length vs)) nvp p). g.short) x.good)
 
-  short-links : Every ShortLinks [] ls
+  short_links : Every ShortLinks [] ls
   unfolding ShortLinks Short
-  short-links = every_of (λ (l : List ℕ). length l ≤ nvp) [] ls (λ i. rw (x.shaped.sides i) (every-at Short noPolygon ps short i))
+  short_links = every_of (λ (l : List ℕ). length l ≤ nvp) [] ls (λ i. rw (x.shaped.sides i) (every_at Short no_polygon ps short i))
 
-  any-vertex : Every AnyVertex noVertex vs
+  any_vertex : Every AnyVertex no_vertex vs
   unfolding AnyVertex
-  any-vertex = every_of (λ (v : Vertex). Unit) noVertex vs (λ i. tt)
+  any_vertex = every_of (λ (v : Vertex). Unit) no_vertex vs (λ i. tt)
 
-  vertex-sized : (v : Vertex) → AnyVertex v → length (vertexWords v) ≡ vertexStride
-  unfolding vertexWords
-  vertex-sized v u = refl
+  vertex_sized : (v : Vertex) → AnyVertex v → length (vertex_words v) ≡ vertex_stride
+  unfolding vertex_words
+  vertex_sized v u = refl
 
-  polygon-sized : (p : Polygon) → Short p → length (cornerWords nvp p) ≡ nvp
-  unfolding cornerWords Short
-  polygon-sized p k = length-padded nvp p.corners k
+  polygon_sized : (p : Polygon) → Short p → length (corner_words nvp p) ≡ nvp
+  unfolding corner_words Short
+  polygon_sized p k = length_padded nvp p.corners k
 
-  links-sized : (l : List ℕ) → ShortLinks l → length (padded nvp l) ≡ nvp
+  links_sized : (l : List ℕ) → ShortLinks l → length (padded nvp l) ≡ nvp
   unfolding ShortLinks
-  links-sized l k = length-padded nvp l k
+  links_sized l k = length_padded nvp l k
 
-  pub vertices-long : length (packed vertexWords vs) ≡ length vs * vertexStride
-  vertices-long = length-packed vertexWords vertexStride AnyVertex noVertex vertex-sized vs any-vertex
+  pub vertices_long : length (packed vertex_words vs) ≡ length vs * vertex_stride
+  vertices_long = length_packed vertex_words vertex_stride AnyVertex no_vertex vertex_sized vs any_vertex
 
-  pub polygons-long : length (packed (cornerWords nvp) ps) ≡ length ps * nvp
-  polygons-long = length-packed (cornerWords nvp) nvp Short noPolygon polygon-sized ps short
+  pub polygons_long : length (packed (corner_words nvp) ps) ≡ length ps * nvp
+  polygons_long = length_packed (corner_words nvp) nvp Short no_polygon polygon_sized ps short
 
-  pub links-long : length (packed (padded nvp) ls) ≡ length ps * nvp
-  links-long = length-packed (padded nvp) nvp ShortLinks [] links-sized ls short-links ∙ ap (λ (n : ℕ). n * nvp) x.shaped.polygons
+  pub links_long : length (packed (padded nvp) ls) ≡ length ps * nvp
+  links_long = length_packed (padded nvp) nvp ShortLinks [] links_sized ls short_links ∙ ap (λ (n : ℕ). n * nvp) x.shaped.polygons
 
-  vertices-counted : vertexCount written ≡ length vs
-  unfolding vertexCount written
-  vertices-counted = ap (λ (n : ℕ). n / vertexStride) vertices-long ∙ mul-div_cancel (length vs) (omega arith)
+  vertices_counted : vertex_count written ≡ length vs
+  unfolding vertex_count written
+  vertices_counted = ap (λ (n : ℕ). n / vertex_stride) vertices_long ∙ mul-div_cancel (length vs) (omega arith)
 
-  polygons-counted : polygonCount written ≡ length ps
-  unfolding polygonCount written
-  polygons-counted = ap (λ (n : ℕ). n / nvp) polygons-long ∙ mul-div_cancel (length ps) (omega (arith, x.nvp-low))
+  polygons_counted : polygon_count written ≡ length ps
+  unfolding polygon_count written
+  polygons_counted = ap (λ (n : ℕ). n / nvp) polygons_long ∙ mul-div_cancel (length ps) (omega (arith, x.nvp_low))
 
   -- a block of words
-  vertex-view : (i : ℕ) → i < length vs → view (packed vertexWords vs) (i * vertexStride) vertexStride ≡ vertexWords (get_or vs i noVertex)
-  vertex-view i k = packed-view vertexWords vertexStride AnyVertex noVertex vertex-sized vs i any-vertex k
+  vertex_view : (i : ℕ) → i < length vs → view (packed vertex_words vs) (i * vertex_stride) vertex_stride ≡ vertex_words (get_or vs i no_vertex)
+  vertex_view i k = packed_view vertex_words vertex_stride AnyVertex no_vertex vertex_sized vs i any_vertex k
 
-  polygon-view : (i : ℕ) → i < length ps → view (packed (cornerWords nvp) ps) (i * nvp) nvp ≡ padded nvp (polygonAt ps i).corners
-  unfolding cornerWords
-  polygon-view i k = packed-view (cornerWords nvp) nvp Short noPolygon polygon-sized ps i short k
+  polygon_view : (i : ℕ) → i < length ps → view (packed (corner_words nvp) ps) (i * nvp) nvp ≡ padded nvp (polygon_at ps i).corners
+  unfolding corner_words
+  polygon_view i k = packed_view (corner_words nvp) nvp Short no_polygon polygon_sized ps i short k
 
-  links-view : (i : ℕ) → i < length ps → view (packed (padded nvp) ls) (i * nvp) nvp ≡ padded nvp (get_or ls i [])
-  links-view i k = packed-view (padded nvp) nvp ShortLinks [] links-sized ls i short-links (rw x.shaped.polygons k)
+  links_view : (i : ℕ) → i < length ps → view (packed (padded nvp) ls) (i * nvp) nvp ≡ padded nvp (get_or ls i [])
+  links_view i k = packed_view (padded nvp) nvp ShortLinks [] links_sized ls i short_links (rw x.shaped.polygons k)
 
   -- the three parts as they are read
-  corners-below : (i : ℕ) → i < length ps → All (Below none) (polygonAt ps i).corners
-  corners-below i k = all-imp (λ c (q : c < length vs). omega (arith, x.few-vertices)) (all-at x.good i noPolygon k).inside
+  corners_below : (i : ℕ) → i < length ps → All (Below none) (polygon_at ps i).corners
+  corners_below i k = all_imp (λ c (q : c < length vs). omega (arith, x.few_vertices)) (all_at x.good i no_polygon k).inside
 
-  polygon-read : (i : ℕ) → i < length ps → storedPolygon nvp (buffersOf written) i ≡ bare (polygonAt ps i)
-  unfolding storedPolygon written bare
-  polygon-read i k = rw (polygon-view i k, up-to-padded nvp (corners-below i k)) refl
+  polygon_read : (i : ℕ) → i < length ps → stored_polygon nvp (buffers_of written) i ≡ bare (polygon_at ps i)
+  unfolding stored_polygon written bare
+  polygon_read i k = rw (polygon_view i k, up_to_padded nvp (corners_below i k)) refl
 
-  links-read : (i : ℕ) → i < length ps → storedLinks nvp (buffersOf written) i ≡ get_or ls i []
-  unfolding storedLinks written bare
-  links-read i k =
-      let n = length (polygonAt ps i).corners in
-      rw (polygon-read i k)
-      (sym (take-take n nvp (drop (i * nvp) (packed (padded nvp) ls)) (all-at x.good i noPolygon k).short)
-      ∙ ap (take n) (links-view i k) ∙ take-padded nvp n (get_or ls i []) (x.shaped.sides i))
+  links_read : (i : ℕ) → i < length ps → stored_links nvp (buffers_of written) i ≡ get_or ls i []
+  unfolding stored_links written bare
+  links_read i k =
+      let n = length (polygon_at ps i).corners in
+      rw (polygon_read i k)
+      (sym (take-take n nvp (drop (i * nvp) (packed (padded nvp) ls)) (all_at x.good i no_polygon k).short)
+      ∙ ap (take n) (links_view i k) ∙ take_padded nvp n (get_or ls i []) (x.shaped.sides i))
 
-  pub polygons-are : (meshIn written).polygons ≡ map bare ps
-  unfolding meshIn decoded written bare
-  polygons-are = ap (tab (storedPolygon nvp (buffersOf written))) (polygons-counted ∙ sym (length-map ps bare))
-      ∙ tab-list (storedPolygon nvp (buffersOf written)) (map bare ps) noPolygon
-      (λ i k. polygon-read i (rw (length-map ps bare) at k) ∙ sym (get_or-map bare ps i noPolygon))
+  pub polygons_are : (mesh_in written).polygons ≡ map bare ps
+  unfolding mesh_in decoded written bare
+  polygons_are = ap (tab (stored_polygon nvp (buffers_of written))) (polygons_counted ∙ sym (length-map ps bare))
+      ∙ tab_list (stored_polygon nvp (buffers_of written)) (map bare ps) no_polygon
+      (λ i k. polygon_read i (rw (length-map ps bare) at k) ∙ sym (get_or-map bare ps i no_polygon))
 
-  links-are : (meshIn written).links ≡ ls
-  unfolding meshIn decoded written
-  links-are = ap (tab (storedLinks nvp (buffersOf written))) (polygons-counted ∙ sym x.shaped.polygons)
-      ∙ tab-list (storedLinks nvp (buffersOf written)) ls [] (λ i k. links-read i (rw x.shaped.polygons at k))
+  links_are : (mesh_in written).links ≡ ls
+  unfolding mesh_in decoded written
+  links_are = ap (tab (stored_links nvp (buffers_of written))) (polygons_counted ∙ sym x.shaped.polygons)
+      ∙ tab_list (stored_links nvp (buffers_of written)) ls [] (λ i k. links_read i (rw x.shaped.polygons at k))
 
-  pub vertices-are : (meshIn written).vertices ≡ vs
-  unfolding meshIn decoded written vertexOf vertexWords
-  vertices-are = ap (tab (λ i. vertexOf (view (packed vertexWords vs) (i * vertexStride) vertexStride))) vertices-counted
-      ∙ tab-list (λ i. vertexOf (view (packed vertexWords vs) (i * vertexStride) vertexStride)) vs noVertex (λ i k. ap vertexOf (vertex-view i k))
+  pub vertices_are : (mesh_in written).vertices ≡ vs
+  unfolding mesh_in decoded written vertex_of vertex_words
+  vertices_are = ap (tab (λ i. vertex_of (view (packed vertex_words vs) (i * vertex_stride) vertex_stride))) vertices_counted
+      ∙ tab_list (λ i. vertex_of (view (packed vertex_words vs) (i * vertex_stride) vertex_stride)) vs no_vertex (λ i k. ap vertex_of (vertex_view i k))
 
-  corners-are : (i : ℕ) → cornersAt (meshIn written) i ≡ (polygonAt ps i).corners
-  corners-are i = ap (λ (qs : List Polygon). (polygonAt qs i).corners) polygons-are ∙ bare-corners ps i
+  corners_are : (i : ℕ) → corners_at (mesh_in written) i ≡ (polygon_at ps i).corners
+  corners_are i = ap (λ (qs : List Polygon). (polygon_at qs i).corners) polygons_are ∙ bare_corners ps i
 
   -- the single words
-  corner-word : (i k : ℕ) → i < length ps → k < nvp → cornerWord written i k ≡ get_or (padded nvp (polygonAt ps i).corners) k 0
-  unfolding cornerWord written
-  corner-word i k a b = sym (getD-view (packed (cornerWords nvp) ps) (i * nvp) nvp k 0 b) ∙ ap (λ (l : List ℕ). get_or l k 0) (polygon-view i a)
+  corner_word_lem : (i k : ℕ) → i < length ps → k < nvp → corner_word written i k ≡ get_or (padded nvp (polygon_at ps i).corners) k 0
+  unfolding corner_word written
+  corner_word_lem i k a b = sym (get_or_view (packed (corner_words nvp) ps) (i * nvp) nvp k 0 b) ∙ ap (λ (l : List ℕ). get_or l k 0) (polygon_view i a)
 
-  link-word : (i k : ℕ) → i < length ps → k < nvp → linkWord written i k ≡ get_or (padded nvp (get_or ls i [])) k 0
-  unfolding linkWord written
-  link-word i k a b = sym (getD-view (packed (padded nvp) ls) (i * nvp) nvp k 0 b) ∙ ap (λ (l : List ℕ). get_or l k 0) (links-view i a)
+  link_word_lem : (i k : ℕ) → i < length ps → k < nvp → link_word written i k ≡ get_or (padded nvp (get_or ls i [])) k 0
+  unfolding link_word written
+  link_word_lem i k a b = sym (get_or_view (packed (padded nvp) ls) (i * nvp) nvp k 0 b) ∙ ap (λ (l : List ℕ). get_or l k 0) (links_view i a)
 
-  area-is : storedArea (meshIn written) ≡ sum_of (polygonArea vs) ps
-  unfolding storedArea polygonArea points_of bare
-  area-is = rw (polygons-are, vertices-are) (sum-map (polygonArea vs) bare ps)
+  area_is : stored_area (mesh_in written) ≡ sum_of (polygon_area vs) ps
+  unfolding stored_area polygon_area points_of bare
+  area_is = rw (polygons_are, vertices_are) (sum_map (polygon_area vs) bare ps)
 
   -- ---- the sentences, one by one
 
-  buffers-meet : GoodBuffers written
+  buffers_meet : GoodBuffers written
   unfolding written
-  buffers-meet = record {
-    vertices = vertices-long ∙ ap (λ (n : ℕ). n * vertexStride) (sym vertices-counted);
-    polygons = polygons-long ∙ ap (λ (n : ℕ). n * nvp) (sym polygons-counted);
-    links = links-long ∙ sym polygons-long;
-    few-vertices = rw vertices-counted x.few-vertices;
-    few-polygons = rw polygons-counted x.few-polygons;
-    nvp-low = x.nvp-low;
-    nvp-high = x.nvp-high;
-    grid = λ k a. rw vertices-are (all-at x.grid k noVertex (rw vertices-counted at a));
+  buffers_meet = record {
+    vertices = vertices_long ∙ ap (λ (n : ℕ). n * vertex_stride) (sym vertices_counted);
+    polygons = polygons_long ∙ ap (λ (n : ℕ). n * nvp) (sym polygons_counted);
+    links = links_long ∙ sym polygons_long;
+    few_vertices = rw vertices_counted x.few_vertices;
+    few_polygons = rw polygons_counted x.few_polygons;
+    nvp_low = x.nvp_low;
+    nvp_high = x.nvp_high;
+    grid = λ k a. rw vertices_are (all_at x.grid k no_vertex (rw vertices_counted at a));
   }
 
-  corners-meet : (i : ℕ) → i < length ps → GoodCorners written i
+  corners_meet : (i : ℕ) → i < length ps → GoodCorners written i
   unfolding written
-  corners-meet i a =
-      let g = all-at x.good i noPolygon a in
-      let cs = (polygonAt ps i).corners in
+  corners_meet i a =
+      let g = all_at x.good i no_polygon a in
+      let cs = (polygon_at ps i).corners in
       record {
-        long = rw (corners-are i) g.long;
+        long = rw (corners_are i) g.long;
         inside = λ k b.
-            let c : k < length (polygonAt ps i).corners = rw (corners-are i) at b in
-            rw (corner-word i k a (omega (arith, g.short)), padded-in nvp cs k c, vertices-counted) (all-at g.inside k 0 c);
-        after = λ k b c. corner-word i k a c ∙ padded-after nvp cs k (rw (corners-are i) at b) c;
+            let c : k < length (polygon_at ps i).corners = rw (corners_are i) at b in
+            rw (corner_word_lem i k a (omega (arith, g.short)), padded_in nvp cs k c, vertices_counted) (all_at g.inside k 0 c);
+        after = λ k b c. corner_word_lem i k a c ∙ padded_after nvp cs k (rw (corners_are i) at b) c;
       }
 
-  links-meet : (i : ℕ) → i < length ps → GoodLinks written i
+  links_meet : (i : ℕ) → i < length ps → GoodLinks written i
   unfolding written
-  links-meet i a = record {
+  links_meet i a = record {
     named = λ j b l.
-        let c : j < length (polygonAt ps i).corners = rw (corners-are i) at b in
-        rw links-are (same-corners ps (meshIn written).polygons ls i j (ap length polygons-are ∙ length-map ps bare) corners-are
-        (x.named i j a c (rw links-are at l)));
-    most = λ j b. rw links-are (x.most i j);
-    after = λ k b c. link-word i k a c ∙ padded-after nvp (get_or ls i []) k (rw (x.shaped.sides i) (rw (corners-are i) at b)) c;
+        let c : j < length (polygon_at ps i).corners = rw (corners_are i) at b in
+        rw links_are (same_corners ps (mesh_in written).polygons ls i j (ap length polygons_are ∙ length-map ps bare) corners_are
+        (x.named i j a c (rw links_are at l)));
+    most = λ j b. rw links_are (x.most i j);
+    after = λ k b c. link_word_lem i k a c ∙ padded_after nvp (get_or ls i []) k (rw (x.shaped.sides i) (rw (corners_are i) at b)) c;
   }
 
-  portals-meet : (i : ℕ) → i < length ps → GoodPortals claimed i
+  portals_meet : (i : ℕ) → i < length ps → GoodPortals claimed i
   unfolding claimed
-  portals-meet i a j b l =
-      let c : j < length (polygonAt ps i).corners = rw (corners-are i) at b in
-      rw (links-are, vertices-are, corners-are i) (x.opened i j a c (rw links-are at l))
+  portals_meet i a j b l =
+      let c : j < length (polygon_at ps i).corners = rw (corners_are i) at b in
+      rw (links_are, vertices_are, corners_are i) (x.opened i j a c (rw links_are at l))
 
-  pub meets-acceptable : Acceptable claimed
+  pub meets_acceptable : Acceptable claimed
   unfolding claimed
-  meets-acceptable = record {
+  meets_acceptable = record {
     consistent = record {
-      buffers = buffers-meet;
-      corners = λ i a. corners-meet i (rw polygons-counted at a);
-      links = λ i a. links-meet i (rw polygons-counted at a);
+      buffers = buffers_meet;
+      corners = λ i a. corners_meet i (rw polygons_counted at a);
+      links = λ i a. links_meet i (rw polygons_counted at a);
     };
-    portals = λ i a. portals-meet i (rw polygons-counted at a);
-    area = area-is;
+    portals = λ i a. portals_meet i (rw polygons_counted at a);
+    area = area_is;
   }

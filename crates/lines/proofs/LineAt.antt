@@ -7,44 +7,44 @@ use Prim.Native.Nat.{ℕ, ◌+◌, ◌-◌, ◌≤◌, ◌<◌}
 use native.Mathlib.Omega.{arith}
 use lib.ListN.{length, drop}
 use Rattle.mem.specs.Slice.{view}
-use Rattle.rules.specs.Lines.{tabByte, lf, parts, Numbers, numbers, malformed, numbersOf}
+use Rattle.rules.specs.Lines.{tab_byte, lf, parts, Numbers, numbers, malformed, numbers_of}
 use Rattle.lines.specs.declared.numbers.Four.{Four}
 use Rattle.lines.specs.declared.line.LineRead.{LineRead}
 use Rattle.lines.specs.Scan.{place_of}
-use Rattle.lines.specs.Read.{fourOf, lineEnd, lineRead, numbersAt}
-use Rattle.lines.specs.Taken.{numbers-at, numbers-open}
+use Rattle.lines.specs.Read.{four_of, line_end, line_read, numbers_at}
+use Rattle.lines.specs.Taken.{numbers_at_lem, numbers_open}
 
 -- a line that is malformed or has no end
 abbrev nothing : ℕ → LineRead
 nothing p = record { good = false; next = p; a = 0; b = 0; c = 0; d = 0 }
 
 module _ (text : List ℕ) (p : ℕ) {e : ℕ} (q : e ≡ p + place_of lf (drop p text)) where
-  good-line : (n : Numbers) {f : Four} → f ≡ fourOf n → f.good ≡ true
-      → record { good = true; next = e + 1; a = f.a; b = f.b; c = f.c; d = f.d } ≡ lineRead text p n
-  unfolding fourOf lineRead lineEnd
-  good-line (numbers ns) x g = rw (q, x) refl
-  good-line malformed x g = absurd (true≢false (sym g ∙ ap (λ (f : Four). f.good) x))
+  good_line : (n : Numbers) {f : Four} → f ≡ four_of n → f.good ≡ true
+      → record { good = true; next = e + 1; a = f.a; b = f.b; c = f.c; d = f.d } ≡ line_read text p n
+  unfolding four_of line_read line_end
+  good_line (numbers ns) x g = rw (q, x) refl
+  good_line malformed x g = absurd (true≢false (sym g ∙ ap (λ (f : Four). f.good) x))
 
-  bad-line : (n : Numbers) {f : Four} → f ≡ fourOf n → f.good ≡ false → nothing p ≡ lineRead text p n
-  unfolding fourOf lineRead
-  bad-line (numbers ns) x g = absurd (true≢false (sym (ap (λ (f : Four). f.good) x) ∙ g))
-  bad-line malformed x g = refl
+  bad_line : (n : Numbers) {f : Four} → f ≡ four_of n → f.good ≡ false → nothing p ≡ line_read text p n
+  unfolding four_of line_read
+  bad_line (numbers ns) x g = absurd (true≢false (sym (ap (λ (f : Four). f.good) x) ∙ g))
+  bad_line malformed x g = refl
 
   module _ (name : List ℕ) (least : ℕ) (mosts : List ℕ) where
     -- the numbers that are found up to the LF
-    module _ (h : e < length text) {f : Four} (x : f ≡ fourOf (numbersOf name least mosts (parts tabByte (view text p (e - p))))) where
-      found : f ≡ fourOf (numbersAt text p name least mosts)
+    module _ (h : e < length text) {f : Four} (x : f ≡ four_of (numbers_of name least mosts (parts tab_byte (view text p (e - p))))) where
+      found : f ≡ four_of (numbers_at text p name least mosts)
       found =
           let k : e - p ≡ place_of lf (drop p text) = omega arith in
-          x ∙ ap fourOf (rw k (sym (numbers-at text p name least mosts (omega arith))))
+          x ∙ ap four_of (rw k (sym (numbers_at_lem text p name least mosts (omega arith))))
 
-      pub line-good : f.good ≡ true
-          → record { good = true; next = e + 1; a = f.a; b = f.b; c = f.c; d = f.d } ≡ lineRead text p (numbersAt text p name least mosts)
-      line-good g = good-line (numbersAt text p name least mosts) found g
+      pub line_good : f.good ≡ true
+          → record { good = true; next = e + 1; a = f.a; b = f.b; c = f.c; d = f.d } ≡ line_read text p (numbers_at text p name least mosts)
+      line_good g = good_line (numbers_at text p name least mosts) found g
 
-      pub line-bad : f.good ≡ false → nothing p ≡ lineRead text p (numbersAt text p name least mosts)
-      line-bad g = bad-line (numbersAt text p name least mosts) found g
+      pub line_bad : f.good ≡ false → nothing p ≡ line_read text p (numbers_at text p name least mosts)
+      line_bad g = bad_line (numbers_at text p name least mosts) found g
 
-    pub line-none : length text ≤ e → nothing p ≡ lineRead text p (numbersAt text p name least mosts)
-    unfolding lineRead
-    line-none h = rw (numbers-open text p name least mosts (omega arith)) refl
+    pub line_none : length text ≤ e → nothing p ≡ line_read text p (numbers_at text p name least mosts)
+    unfolding line_read
+    line_none h = rw (numbers_open text p name least mosts (omega arith)) refl

@@ -11,94 +11,94 @@ use lib.Dec.{eqb}
 use lib.ListN.{length, take, drop, get_or, set, replicate, length-append, length-set, length-replicate, drop_of_length-le}
 use lib.Seq.{append_snoc}
 use borrow.Author.Tests.{eqb-true, eqb-false}
-use Rattle.mem.specs.Slice.{view, splice, splice-nil, splice-eq, write_step}
-use Rattle.mem.specs.Zeros.{withZeros, drop-replicate, zeros-at}
-use Rattle.rules.specs.Lines.{tabByte, isSameText, parts, Line, decimalIn, Numbers, numbers, malformed, with_number, numbersIn, numbersOf}
+use Rattle.mem.specs.Slice.{view, splice, splice_nil, splice_eq, write_step}
+use Rattle.mem.specs.Zeros.{with_zeros, drop_replicate, zeros_at}
+use Rattle.rules.specs.Lines.{tab_byte, is_same_text, parts, Line, decimal_in, Numbers, numbers, malformed, with_number, numbers_in, numbers_of}
 use Rattle.rules.specs.declared.Decimal.{Decimal}
 use Rattle.rules.specs.declared.Decimal.TheVariants.{Value, Malformed}
-use Rattle.lines.specs.Scan.{place_of, parts-some}
-use Rattle.lines.specs.Read.{areNumbers, goodIn, goodOf, RowRead, fourOf}
-use Rattle.lines.specs.Taken.{row-good}
-use Rattle.lines.proofs.Scanning.{drop-next}
-use Rattle.lines.proofs.Counting.{cellsFrom, cells-more, cells-end, first_cell}
+use Rattle.lines.specs.Scan.{place_of, parts_some}
+use Rattle.lines.specs.Read.{are_numbers, good_in, good_of, RowRead, four_of}
+use Rattle.lines.specs.Taken.{row_good}
+use Rattle.lines.proofs.Scanning.{drop_next}
+use Rattle.lines.proofs.Counting.{cells_from, cells_more, cells_end, first_cell}
 
 -- ---- numbers in front of others
-unfoldable pub withNumbers : List ℕ → Numbers → Numbers
-withNumbers [] r = r
-withNumbers (n ∷ ns) r = with_number n (withNumbers ns r)
+unfoldable pub with_numbers : List ℕ → Numbers → Numbers
+with_numbers [] r = r
+with_numbers (n ∷ ns) r = with_number n (with_numbers ns r)
 
-with-malformed : (ns : List ℕ) → withNumbers ns malformed ≡ malformed
-unfolding withNumbers with_number
-with-malformed [] = refl
-with-malformed (n ∷ ns) = rw (with-malformed ns) refl
+with_malformed : (ns : List ℕ) → with_numbers ns malformed ≡ malformed
+unfolding with_numbers with_number
+with_malformed [] = refl
+with_malformed (n ∷ ns) = rw (with_malformed ns) refl
 
-with-numbers : (ns : List ℕ) → withNumbers ns (numbers []) ≡ numbers ns
-unfolding withNumbers with_number
-with-numbers [] = refl
-with-numbers (n ∷ ns) = rw (with-numbers ns) refl
+with_numbers_lem : (ns : List ℕ) → with_numbers ns (numbers []) ≡ numbers ns
+unfolding with_numbers with_number
+with_numbers_lem [] = refl
+with_numbers_lem (n ∷ ns) = rw (with_numbers_lem ns) refl
 
-with-snoc : (ns : List ℕ) (n : ℕ) (r : Numbers) → withNumbers (ns ++ (n ∷ [])) r ≡ withNumbers ns (with_number n r)
-unfolding withNumbers
-with-snoc [] n r = refl
-with-snoc (m ∷ ns) n r = ap (with_number m) (with-snoc ns n r)
+with_snoc : (ns : List ℕ) (n : ℕ) (r : Numbers) → with_numbers (ns ++ (n ∷ [])) r ≡ with_numbers ns (with_number n r)
+unfolding with_numbers
+with_snoc [] n r = refl
+with_snoc (m ∷ ns) n r = ap (with_number m) (with_snoc ns n r)
 
 -- ---- one more cell
 module _ (least m : ℕ) (ms c : List ℕ) (cs : Line) where
-  in-bad : decimalIn least m c ≡ Malformed → numbersIn least (m ∷ ms) (c ∷ cs) ≡ malformed
-  unfolding numbersIn
-  in-bad e = rw (e, numbersIn) refl
+  in_bad : decimal_in least m c ≡ Malformed → numbers_in least (m ∷ ms) (c ∷ cs) ≡ malformed
+  unfolding numbers_in
+  in_bad e = rw (e, numbers_in) refl
 
-  in-value : {n : ℕ} → decimalIn least m c ≡ Value n → numbersIn least (m ∷ ms) (c ∷ cs) ≡ with_number n (numbersIn least ms cs)
-  unfolding numbersIn
-  in-value e = rw (e, numbersIn) refl
+  in_value : {n : ℕ} → decimal_in least m c ≡ Value n → numbers_in least (m ∷ ms) (c ∷ cs) ≡ with_number n (numbers_in least ms cs)
+  unfolding numbers_in
+  in_value e = rw (e, numbers_in) refl
 
-  found-bad : decimalIn least m c ≡ Malformed → goodIn least (m ∷ ms) (c ∷ cs) ≡ []
-  unfolding goodIn
-  found-bad e = rw (e, goodIn) refl
+  found_bad : decimal_in least m c ≡ Malformed → good_in least (m ∷ ms) (c ∷ cs) ≡ []
+  unfolding good_in
+  found_bad e = rw (e, good_in) refl
 
-  found-value : {n : ℕ} → decimalIn least m c ≡ Value n → goodIn least (m ∷ ms) (c ∷ cs) ≡ n ∷ goodIn least ms cs
-  unfolding goodIn
-  found-value e = rw (e, goodIn) refl
+  found_value : {n : ℕ} → decimal_in least m c ≡ Value n → good_in least (m ∷ ms) (c ∷ cs) ≡ n ∷ good_in least ms cs
+  unfolding good_in
+  found_value e = rw (e, good_in) refl
 
-in-over : (least : ℕ) (cs : Line) → 0 < length cs → numbersIn least [] cs ≡ malformed
-unfolding numbersIn
-in-over least [] h = absurd (omega arith)
-in-over least (c ∷ cs) h = refl
+in_over : (least : ℕ) (cs : Line) → 0 < length cs → numbers_in least [] cs ≡ malformed
+unfolding numbers_in
+in_over least [] h = absurd (omega arith)
+in_over least (c ∷ cs) h = refl
 
 -- ---- the loop: v are the words where it begins, `values` the words now
 pub record Numbering (line name : List ℕ) (least : ℕ) (mosts v values : List ℕ) (at i : ℕ) : Type 0 where
   pub ns : List ℕ
-  pub same : numbersOf name least mosts (parts tabByte line) ≡ withNumbers ns (numbersIn least (drop i mosts) (cellsFrom line at))
-  pub found : goodOf name least mosts (parts tabByte line) ≡ ns ++ goodIn least (drop i mosts) (cellsFrom line at)
+  pub same : numbers_of name least mosts (parts tab_byte line) ≡ with_numbers ns (numbers_in least (drop i mosts) (cells_from line at))
+  pub found : good_of name least mosts (parts tab_byte line) ≡ ns ++ good_in least (drop i mosts) (cells_from line at)
   pub put : values ≡ splice v 0 ns
   pub count : length ns ≡ i
   pub long : length values ≡ length v
   pub within : at ≤ length line
 
 -- a line that is not good, with these numbers up to its first bad cell
-row-none : (line name : List ℕ) (least : ℕ) (mosts : List ℕ) {v values : List ℕ} (ns : List ℕ) → numbersOf name least mosts (parts tabByte line) ≡ malformed
-    → goodOf name least mosts (parts tabByte line) ≡ ns → values ≡ splice v 0 ns → RowRead name least mosts (parts tabByte line) false v values
-unfolding areNumbers
-row-none line name least mosts {v} ns e g p = record { good = rw e refl; put = p ∙ ap (splice v 0) (sym g) }
+row_none : (line name : List ℕ) (least : ℕ) (mosts : List ℕ) {v values : List ℕ} (ns : List ℕ) → numbers_of name least mosts (parts tab_byte line) ≡ malformed
+    → good_of name least mosts (parts tab_byte line) ≡ ns → values ≡ splice v 0 ns → RowRead name least mosts (parts tab_byte line) false v values
+unfolding are_numbers
+row_none line name least mosts {v} ns e g p = record { good = rw e refl; put = p ∙ ap (splice v 0) (sym g) }
 
-module _ (line name : List ℕ) (least : ℕ) (mosts v : List ℕ) {at : ℕ} (e : at ≡ 0 + place_of tabByte (drop 0 line)) where
-  first : parts tabByte line ≡ take at line ∷ cellsFrom line at
+module _ (line name : List ℕ) (least : ℕ) (mosts v : List ℕ) {at : ℕ} (e : at ≡ 0 + place_of tab_byte (drop 0 line)) where
+  first : parts tab_byte line ≡ take at line ∷ cells_from line at
   first = rw (sub-zero at) at (first_cell line 0 at (omega arith) e)
 
   -- the first cell is another name
-  pub other_name : {t : Bool} → t ≡ isSameText (take at line) name → t ≡ false → RowRead name least mosts (parts tabByte line) false v v
-  unfolding numbersOf goodOf
+  pub other_name : {t : Bool} → t ≡ is_same_text (take at line) name → t ≡ false → RowRead name least mosts (parts tab_byte line) false v v
+  unfolding numbers_of good_of
   other_name q f =
-      row-none line name least mosts [] (ap (numbersOf name least mosts) first ∙ rw (sym q ∙ f, numbersOf) refl)
-      (ap (goodOf name least mosts) first ∙ rw (sym q ∙ f, goodOf) refl) (sym (splice-nil v 0))
+      row_none line name least mosts [] (ap (numbers_of name least mosts) first ∙ rw (sym q ∙ f, numbers_of) refl)
+      (ap (good_of name least mosts) first ∙ rw (sym q ∙ f, good_of) refl) (sym (splice_nil v 0))
 
-  pub numbering-begin : {t : Bool} → t ≡ isSameText (take at line) name → t ≡ true → at ≤ length line → Numbering line name least mosts v v at 0
-  unfolding numbersOf goodOf withNumbers
-  numbering-begin q f h = record {
+  pub numbering_begin : {t : Bool} → t ≡ is_same_text (take at line) name → t ≡ true → at ≤ length line → Numbering line name least mosts v v at 0
+  unfolding numbers_of good_of with_numbers
+  numbering_begin q f h = record {
     ns = [];
-    same = ap (numbersOf name least mosts) first ∙ rw (sym q ∙ f, numbersOf) refl;
-    found = ap (goodOf name least mosts) first ∙ rw (sym q ∙ f, goodOf) refl;
-    put = sym (splice-nil v 0);
+    same = ap (numbers_of name least mosts) first ∙ rw (sym q ∙ f, numbers_of) refl;
+    found = ap (good_of name least mosts) first ∙ rw (sym q ∙ f, good_of) refl;
+    put = sym (splice_nil v 0);
     count = refl;
     long = refl;
     within = h;
@@ -106,33 +106,33 @@ module _ (line name : List ℕ) (least : ℕ) (mosts v : List ℕ) {at : ℕ} (e
 
 module _ {line name : List ℕ} {least : ℕ} {mosts v values : List ℕ} {at i : ℕ} (s : Numbering line name least mosts v values at i) where
   -- the numbers so far are all, and the line isn't good
-  ended : numbersIn least (drop i mosts) (cellsFrom line at) ≡ malformed → goodIn least (drop i mosts) (cellsFrom line at) ≡ []
-      → RowRead name least mosts (parts tabByte line) false v values
+  ended : numbers_in least (drop i mosts) (cells_from line at) ≡ malformed → good_in least (drop i mosts) (cells_from line at) ≡ []
+      → RowRead name least mosts (parts tab_byte line) false v values
   ended e g =
-      row-none line name least mosts s.ns (s.same ∙ ap (withNumbers s.ns) e ∙ with-malformed s.ns)
+      row_none line name least mosts s.ns (s.same ∙ ap (with_numbers s.ns) e ∙ with_malformed s.ns)
       (s.found ∙ ap (λ (l : List ℕ). s.ns ++ l) g ∙ append-nil s.ns) s.put
 
   module _ (h : i < length mosts) where
     -- a cell is missing
-    pub numbering-short : length line ≤ at → RowRead name least mosts (parts tabByte line) false v values
-    unfolding numbersIn goodIn
-    numbering-short e = ended (rw (drop-next mosts i h, cells-end line at e) refl) (rw (drop-next mosts i h, cells-end line at e) refl)
+    pub numbering_short : length line ≤ at → RowRead name least mosts (parts tab_byte line) false v values
+    unfolding numbers_in good_in
+    numbering_short e = ended (rw (drop_next mosts i h, cells_end line at e) refl) (rw (drop_next mosts i h, cells_end line at e) refl)
 
-    module _ (more : at < length line) {to : ℕ} (e : to ≡ at + 1 + place_of tabByte (drop (at + 1) line)) where
-      left : cellsFrom line at ≡ view line (at + 1) (to - (at + 1)) ∷ cellsFrom line to
-      left = cells-more line at more ∙ first_cell line (at + 1) to (omega arith) e
+    module _ (more : at < length line) {to : ℕ} (e : to ≡ at + 1 + place_of tab_byte (drop (at + 1) line)) where
+      left : cells_from line at ≡ view line (at + 1) (to - (at + 1)) ∷ cells_from line to
+      left = cells_more line at more ∙ first_cell line (at + 1) to (omega arith) e
 
-      pub numbering-bad : {d : Decimal} → d ≡ decimalIn least (get_or mosts i 0) (view line (at + 1) (to - (at + 1))) → d ≡ Malformed
-          → RowRead name least mosts (parts tabByte line) false v values
-      numbering-bad q f =
-          ended (rw (drop-next mosts i h, left) (in-bad least _ _ _ _ (sym q ∙ f))) (rw (drop-next mosts i h, left) (found-bad least _ _ _ _ (sym q ∙ f)))
+      pub numbering_bad : {d : Decimal} → d ≡ decimal_in least (get_or mosts i 0) (view line (at + 1) (to - (at + 1))) → d ≡ Malformed
+          → RowRead name least mosts (parts tab_byte line) false v values
+      numbering_bad q f =
+          ended (rw (drop_next mosts i h, left) (in_bad least _ _ _ _ (sym q ∙ f))) (rw (drop_next mosts i h, left) (found_bad least _ _ _ _ (sym q ∙ f)))
 
-      pub numbering-next : {d : Decimal} {n : ℕ} → d ≡ decimalIn least (get_or mosts i 0) (view line (at + 1) (to - (at + 1))) → d ≡ Value n
+      pub numbering_next : {d : Decimal} {n : ℕ} → d ≡ decimal_in least (get_or mosts i 0) (view line (at + 1) (to - (at + 1))) → d ≡ Value n
           → to ≤ length line → Numbering line name least mosts v (set values i n) to (i + 1)
-      numbering-next {d} {n} q f k = record {
+      numbering_next {d} {n} q f k = record {
         ns = s.ns ++ (n ∷ []);
-        same = s.same ∙ rw (drop-next mosts i h, left, in-value least _ _ _ _ (sym q ∙ f)) (sym (with-snoc s.ns n _));
-        found = s.found ∙ rw (drop-next mosts i h, left, found-value least _ _ _ _ (sym q ∙ f)) (sym (append_snoc s.ns n _));
+        same = s.same ∙ rw (drop_next mosts i h, left, in_value least _ _ _ _ (sym q ∙ f)) (sym (with_snoc s.ns n _));
+        found = s.found ∙ rw (drop_next mosts i h, left, found_value least _ _ _ _ (sym q ∙ f)) (sym (append_snoc s.ns n _));
         put = rw (zero-add i) at (write_step v 0 i s.ns n s.put s.count);
         count = length-append s.ns (n ∷ []) ∙ ap (λ (j : ℕ). j + 1) s.count;
         long = length-set values i n ∙ s.long;
@@ -140,45 +140,45 @@ module _ {line name : List ℕ} {least : ℕ} {mosts v values : List ℕ} {at i 
       }
 
   module _ (h : length mosts ≤ i) where
-    all : goodIn least (drop i mosts) (cellsFrom line at) ≡ []
-    unfolding goodIn
+    all : good_in least (drop i mosts) (cells_from line at) ≡ []
+    unfolding good_in
     all = rw (drop_of_length-le mosts {i = i} h) refl
 
     -- a cell is too many
-    too_many : at ≢ length line → RowRead name least mosts (parts tabByte line) false v values
+    too_many : at ≢ length line → RowRead name least mosts (parts tab_byte line) false v values
     too_many n =
         ended
-        (rw (drop_of_length-le mosts {i = i} h, cells-more line at (omega (arith, s.within))) (in-over least _ (parts-some tabByte (drop (at + 1) line)))) all
+        (rw (drop_of_length-le mosts {i = i} h, cells_more line at (omega (arith, s.within))) (in_over least _ (parts_some tab_byte (drop (at + 1) line)))) all
 
-    well : at ≡ length line → RowRead name least mosts (parts tabByte line) true v values
-    unfolding numbersIn areNumbers
+    well : at ≡ length line → RowRead name least mosts (parts tab_byte line) true v values
+    unfolding numbers_in are_numbers
     well e =
         record {
-          good = rw (s.same, drop_of_length-le mosts {i = i} h, cells-end line at (omega arith), with-numbers s.ns) refl;
+          good = rw (s.same, drop_of_length-le mosts {i = i} h, cells_end line at (omega arith), with_numbers_lem s.ns) refl;
           put = s.put ∙ ap (splice v 0) (sym (s.found ∙ ap (λ (l : List ℕ). s.ns ++ l) all ∙ append-nil s.ns));
         }
 
-    pub numbering-end : RowRead name least mosts (parts tabByte line) (eqb at (length line)) v values
-    numbering-end = (elim (eqb at (length line)) as (λ (t : Bool). eqb at (length line) ≡ t → RowRead name least mosts (parts tabByte line) t v values) [
+    pub numbering_end : RowRead name least mosts (parts tab_byte line) (eqb at (length line)) v values
+    numbering_end = (elim (eqb at (length line)) as (λ (t : Bool). eqb at (length line) ≡ t → RowRead name least mosts (parts tab_byte line) t v values) [
       | true ↦ λ e. well (eqb-true at (length line) e)
       | false ↦ λ e. too_many (eqb-false at (length line) e)
     ]) refl
 
 -- ---- at most four numbers, over zeros
-over_zeros : (ns : List ℕ) (n : ℕ) → length ns ≤ n → splice (replicate n 0) 0 ns ≡ withZeros n ns
-unfolding withZeros
+over_zeros : (ns : List ℕ) (n : ℕ) → length ns ≤ n → splice (replicate n 0) 0 ns ≡ with_zeros n ns
+unfolding with_zeros
 over_zeros ns n h =
     let z : 0 + length ns ≡ length ns = omega arith in
-    splice-eq (replicate n 0) 0 ns (simp length-replicate (omega arith)) ∙ rw (z, drop-replicate {A = ℕ} (length ns) n 0) refl
+    splice_eq (replicate n 0) 0 ns (simp length-replicate (omega arith)) ∙ rw (z, drop_replicate {A = ℕ} (length ns) n 0) refl
 
-four-of : (w ns : List ℕ) → w ≡ withZeros 4 ns → record { good = true; a = get_or w 0 0; b = get_or w 1 0; c = get_or w 2 0; d = get_or w 3 0 } ≡ fourOf (numbers ns)
-unfolding fourOf
-four-of w ns p = rw (p, zeros-at 4 ns 0, zeros-at 4 ns 1, zeros-at 4 ns 2, zeros-at 4 ns 3) refl
+four_of_lem : (w ns : List ℕ) → w ≡ with_zeros 4 ns → record { good = true; a = get_or w 0 0; b = get_or w 1 0; c = get_or w 2 0; d = get_or w 3 0 } ≡ four_of (numbers ns)
+unfolding four_of
+four_of_lem w ns p = rw (p, zeros_at 4 ns 0, zeros_at 4 ns 1, zeros_at 4 ns 2, zeros_at 4 ns 3) refl
 
 module _ {name : List ℕ} {least : ℕ} {mosts : List ℕ} {l : Line} {r : Bool} {w : List ℕ} (x : RowRead name least mosts l r (replicate 4 0) w) where
-  pub four-good : r ≡ true → length mosts ≤ 4
-      → record { good = true; a = get_or w 0 0; b = get_or w 1 0; c = get_or w 2 0; d = get_or w 3 0 } ≡ fourOf (numbersOf name least mosts l)
-  four-good e h =
-      let g = row-good x e in
-      let p : w ≡ withZeros 4 g.ns = g.put ∙ over_zeros g.ns 4 (omega (arith, g.limits.long)) in
-      four-of w g.ns p ∙ ap fourOf (sym g.says)
+  pub four_good : r ≡ true → length mosts ≤ 4
+      → record { good = true; a = get_or w 0 0; b = get_or w 1 0; c = get_or w 2 0; d = get_or w 3 0 } ≡ four_of (numbers_of name least mosts l)
+  four_good e h =
+      let g = row_good x e in
+      let p : w ≡ with_zeros 4 g.ns = g.put ∙ over_zeros g.ns 4 (omega (arith, g.limits.long)) in
+      four_of_lem w g.ns p ∙ ap four_of (sym g.says)

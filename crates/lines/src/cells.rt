@@ -1,6 +1,6 @@
 // Cells of numbers printed, each with its tab in front.
 ghost use Rattle.mem.specs.Packed.{packed};
-ghost use Rattle.rules.specs.Lines.{cell, signedCell};
+ghost use Rattle.rules.specs.Lines.{cell, signed_cell};
 ghost use Rattle.lines.specs.Print.{Room, Printed};
 
 use crate::digits::{put_decimal, put_signed};
@@ -16,8 +16,8 @@ pub fn put_cell(out: &mut [u8], at: usize, n: u64) -> usize
 
 // One number with its sign.
 pub fn put_signed_cell(out: &mut [u8], at: usize, z: i64) -> usize
-    requires { Room out.old (signedCell z) at }
-    ensures { Printed (signedCell z) out.old out.new at result }
+    requires { Room out.old (signed_cell z) at }
+    ensures { Printed (signed_cell z) out.old out.new at result }
 {
     out[at] = b'\t';
     put_signed(out, at + 1, z)

@@ -1,12 +1,12 @@
 // A cell read as a decimal.
 ghost use Rattle.std.specs.Prelude.{◌≡◌};
-ghost use Rattle.rules.specs.Lines.{decimalIn};
+ghost use Rattle.rules.specs.Lines.{decimal_in};
 
 use rules::Decimal;
 
 // The number that a cell says: digits, without leading zeros, from `least` to `most`.
 pub fn read_decimal(cell: &[u8], least: u64, most: u64) -> Decimal
-    ensures { result ≡ decimalIn least most cell.now }
+    ensures { result ≡ decimal_in least most cell.now }
 {
     if cell.len() == 0 {
         return Decimal::Malformed;

@@ -1,6 +1,6 @@
 // The line at a place of a text.
 ghost use Rattle.std.specs.Prelude.{◌≡◌, ◌≤◌, length};
-ghost use Rattle.lines.specs.Read.{mostNumbers, numbersAt, lineRead};
+ghost use Rattle.lines.specs.Read.{most_numbers, numbers_at, line_read};
 
 use crate::numbers::read_numbers;
 use crate::scan::find;
@@ -18,8 +18,8 @@ pub struct LineRead {
 
 // The numbers of the line that begins at `at`, as `read_numbers` reads them; a line that is missing, or that no LF ends, has none.
 pub fn read_line(text: &[u8], at: usize, name: &[u8], least: u64, mosts: &[u64]) -> LineRead
-    requires { (at ≤ length text.now) × (length mosts.now ≤ mostNumbers) }
-    ensures { result ≡ lineRead text.now at (numbersAt text.now at name.now least mosts.now) }
+    requires { (at ≤ length text.now) × (length mosts.now ≤ most_numbers) }
+    ensures { result ≡ line_read text.now at (numbers_at text.now at name.now least mosts.now) }
 {
     let e = find(text, at, b'\n');
     if e < text.len() {

@@ -1,7 +1,7 @@
 // A line of numbers.
 ghost use Rattle.std.specs.Prelude.{◌≡◌, ◌≤◌, length};
-ghost use Rattle.rules.specs.Lines.{tabByte, parts, malformed, numbersOf};
-ghost use Rattle.lines.specs.Read.{mostNumbers, fourOf, RowRead};
+ghost use Rattle.rules.specs.Lines.{tab_byte, parts, malformed, numbers_of};
+ghost use Rattle.lines.specs.Read.{most_numbers, four_of, RowRead};
 
 use crate::decimal::read_decimal;
 use crate::scan::{find, is_same_text};
@@ -18,7 +18,7 @@ pub struct Four {
 }
 
 fn no_numbers() -> Four
-    ensures { result ≡ fourOf malformed }
+    ensures { result ≡ four_of malformed }
 {
     Four {
         good: false,
@@ -33,7 +33,7 @@ fn no_numbers() -> Four
 // first bad cell, go to the beginning of `values`.
 pub fn read_row(line: &[u8], name: &[u8], least: u64, mosts: &[u64], values: &mut [u64]) -> bool
     requires { length mosts.now ≤ length values.old }
-    ensures { RowRead name.now least mosts.now (parts tabByte line.now) result
+    ensures { RowRead name.now least mosts.now (parts tab_byte line.now) result
         values.old values.new }
 {
     let mut at = find(line, 0, b'\t');
@@ -62,8 +62,8 @@ pub fn read_row(line: &[u8], name: &[u8], least: u64, mosts: &[u64], values: &mu
 
 // The numbers of a line that has this name and then a decimal for each of `mosts`, from `least` to that limit.
 pub fn read_numbers(line: &[u8], name: &[u8], least: u64, mosts: &[u64]) -> Four
-    requires { length mosts.now ≤ mostNumbers }
-    ensures { result ≡ fourOf (numbersOf name.now least mosts.now (parts tabByte line.now)) }
+    requires { length mosts.now ≤ most_numbers }
+    ensures { result ≡ four_of (numbers_of name.now least mosts.now (parts tab_byte line.now)) }
 {
     let mut values = [0u64; 4];
     if read_row(line, name, least, mosts, &mut values) {

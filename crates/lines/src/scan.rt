@@ -1,6 +1,6 @@
 // Where a byte stands in a text, and whether two texts are the same.
 ghost use Rattle.std.specs.Prelude.{◌≡◌, ◌+◌, ◌≤◌, length, drop};
-ghost use Rattle.rules.specs.Lines.{isSameText};
+ghost use Rattle.rules.specs.Lines.{is_same_text};
 ghost use Rattle.lines.specs.Scan.{place_of};
 
 // The first place from `from` on where the byte b stands, or the end of the text.
@@ -20,7 +20,7 @@ pub fn find(text: &[u8], from: usize, b: u8) -> usize
 
 // Whether two texts are the same.
 pub fn is_same_text(a: &[u8], b: &[u8]) -> bool
-    ensures { result ≡ isSameText a.now b.now }
+    ensures { result ≡ is_same_text a.now b.now }
 {
     if a.len() != b.len() {
         return false;

@@ -1,13 +1,13 @@
 // The cells of a line: how many there are, and where the last one begins.
 ghost use Rattle.std.specs.Prelude.{◌≡◌, length};
-ghost use Rattle.rules.specs.Lines.{tabByte, parts};
+ghost use Rattle.rules.specs.Lines.{tab_byte, parts};
 ghost use Rattle.lines.specs.Read.{LastCell};
 
 use crate::scan::find;
 
 // How many cells a line has: one more than it has tabs.
 pub fn count_cells(line: &[u8]) -> usize
-    ensures { result ≡ length (parts tabByte line.now) }
+    ensures { result ≡ length (parts tab_byte line.now) }
 {
     let mut n = 1;
     let mut at = find(line, 0, b'\t');

@@ -1,6 +1,6 @@
 // A cell read as a whole number, which may have a sign.
 ghost use Rattle.std.specs.Prelude.{◌≡◌, ◌≤◌};
-ghost use Rattle.rules.specs.Lines.{signedIn};
+ghost use Rattle.rules.specs.Lines.{signed_in};
 
 use crate::decimal::read_decimal;
 use rules::{Decimal, Signed};
@@ -8,7 +8,7 @@ use rules::{Decimal, Signed};
 // The number that a cell says: a decimal up to `most`, or `-` and one that is not 0. `most` is an i64.
 pub fn read_signed(cell: &[u8], most: u64) -> Signed
     requires { most ≤ 9223372036854775807 }
-    ensures { result ≡ signedIn most cell.now }
+    ensures { result ≡ signed_in most cell.now }
 {
     if cell.len() > 0 {
         if cell[0] == b'-' {

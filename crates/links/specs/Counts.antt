@@ -1,5 +1,5 @@
 -- There are never more records than the polygons have corners. Assumes nothing.
--- Key: `edges_few`; `corners-most`: how many corners they can have.
+-- Key: `edges_few`; `corners_most`: how many corners they can have.
 use Rattle.std.specs.Prelude.{◌≡◌, ltb, drop, get_or}
 use Rattle.std.proofs.Math.Path.{refl}
 use mathlib.Core.List.{List, [], ◌∷◌}
@@ -7,78 +7,78 @@ use Prim.Native.Nat.{ℕ, zero, suc, ◌+◌, ◌*◌, ◌≤◌, ◌<◌}
 use native.Mathlib.Omega.{arith}
 use Rattle.std.proofs.Math.ListN.{length, length-append, length-set}
 use Rattle.ints.specs.Bools.{cond_ind}
-use Rattle.mem.specs.Loops.{each, each_at, each-kept}
-use Rattle.rules.specs.Mesh.{Polygon, noPolygon, polygonAt, sideStart, sideEnd}
-use Rattle.rules.specs.Links.{no_edge, eachSide, recordSide, newest, joinedTo, joinAt, joinSide, edgesOf}
+use Rattle.mem.specs.Loops.{each, each_at, each_kept}
+use Rattle.rules.specs.Mesh.{Polygon, no_polygon, polygon_at, side_start, side_end}
+use Rattle.rules.specs.Links.{no_edge, each_side, record_side, newest, joined_to, join_at, join_side, edges_of}
 use Rattle.rules.specs.declared.Edge.{Edge}
 use Rattle.rules.specs.declared.Found.{Found}
 use Rattle.rules.specs.declared.Found.TheVariants.{At, Nothing}
-use Rattle.laws.specs.Lists.{All, none, more, all-at, total}
-use Rattle.laws.specs.Measures.{sparesIn}
+use Rattle.laws.specs.Lists.{All, none, more, all_at, total}
+use Rattle.laws.specs.Measures.{spares_in}
 use Rattle.laws.specs.Merge.{Long}
-use Rattle.records.specs.Layout.{mostCorners, Small}
-use Rattle.links.specs.Ready.{cornersIn}
+use Rattle.records.specs.Layout.{most_corners, Small}
+use Rattle.links.specs.Ready.{corners_in}
 
 -- the corners of polygon i, and those of the polygons after it
-pub corners-left : (ps : List Polygon) (i : ℕ) → i < length ps → cornersIn (drop i ps) ≡ length (polygonAt ps i).corners + cornersIn (drop (i + 1) ps)
-unfolding cornersIn total
-corners-left [] i h = absurd (omega arith)
-corners-left (p ∷ ps) zero h = refl
-corners-left (p ∷ ps) (suc i) h = let e : suc i + 1 ≡ suc (i + 1) = omega arith in rw e (corners-left ps i (omega arith))
+pub corners_left : (ps : List Polygon) (i : ℕ) → i < length ps → corners_in (drop i ps) ≡ length (polygon_at ps i).corners + corners_in (drop (i + 1) ps)
+unfolding corners_in total
+corners_left [] i h = absurd (omega arith)
+corners_left (p ∷ ps) zero h = refl
+corners_left (p ∷ ps) (suc i) h = let e : suc i + 1 ≡ suc (i + 1) = omega arith in rw e (corners_left ps i (omega arith))
 
-corners-up-to : (ps : List Polygon) → ((i : ℕ) → i < length ps → Small (polygonAt ps i)) → cornersIn ps ≤ length ps * mostCorners
-unfolding cornersIn total
-corners-up-to [] h = omega arith
-corners-up-to (p ∷ ps) h = omega (arith, h 0 (omega arith), corners-up-to ps (λ i l. h (suc i) (omega arith)))
+corners_up_to : (ps : List Polygon) → ((i : ℕ) → i < length ps → Small (polygon_at ps i)) → corners_in ps ≤ length ps * most_corners
+unfolding corners_in total
+corners_up_to [] h = omega arith
+corners_up_to (p ∷ ps) h = omega (arith, h 0 (omega arith), corners_up_to ps (λ i l. h (suc i) (omega arith)))
 
-pub corners-most : (ps : List Polygon) → All Small ps → cornersIn ps ≤ length ps * mostCorners
-corners-most ps h = corners-up-to ps (λ i l. all-at h i noPolygon l)
+pub corners_most : (ps : List Polygon) → All Small ps → corners_in ps ≤ length ps * most_corners
+corners_most ps h = corners_up_to ps (λ i l. all_at h i no_polygon l)
 
 -- each polygon has two corners besides those beyond two
-pub corners-spares : {ps : List Polygon} → All Long ps → cornersIn ps ≡ sparesIn ps + 2 * length ps
-unfolding cornersIn total
-corners-spares none = omega arith
-corners-spares (more h a) = omega (arith, h, corners-spares a)
+pub corners_spares : {ps : List Polygon} → All Long ps → corners_in ps ≡ spares_in ps + 2 * length ps
+unfolding corners_in total
+corners_spares none = omega arith
+corners_spares (more h a) = omega (arith, h, corners_spares a)
 
 module _ (ps : List Polygon) where
-  one_more : (i j : ℕ) (es : List Edge) → length (recordSide ps i j es) ≤ length es + 1
-  unfolding recordSide
+  one_more : (i j : ℕ) (es : List Edge) → length (record_side ps i j es) ≤ length es + 1
+  unfolding record_side
   one_more i j es =
-      let a = sideStart (polygonAt ps i).corners j in
-      let b = sideEnd (polygonAt ps i).corners j in
+      let a = side_start (polygon_at ps i).corners j in
+      let b = side_end (polygon_at ps i).corners j in
       cond_ind (λ (fs : List Edge). length fs ≤ length es + 1) (ltb a b)
       (omega (arith, length-append es (record { low = a; high = b; poly = i; side = j; other = i; at = 0 } ∷ []))) (omega arith)
 
-  pub recorded-few : (es : List Edge) → length (eachSide ps (recordSide ps) es) ≤ length es + cornersIn ps
-  unfolding eachSide
-  recorded-few es =
+  pub recorded_few : (es : List Edge) → length (each_side ps (record_side ps) es) ≤ length es + corners_in ps
+  unfolding each_side
+  recorded_few es =
       let n = length ps in
-      let f : length (eachSide ps (recordSide ps) es) + cornersIn (drop n ps) ≤ length es + cornersIn ps =
-      each_at _ (λ i s. length s + cornersIn (drop i ps) ≤ length es + cornersIn ps) n
+      let f : length (each_side ps (record_side ps) es) + corners_in (drop n ps) ≤ length es + corners_in ps =
+      each_at _ (λ i s. length s + corners_in (drop i ps) ≤ length es + corners_in ps) n
       (λ i s h q.
-      let m = length (polygonAt ps i).corners in
-      let g : length (each (recordSide ps i) 0 m s) ≤ length s + m =
-      each_at (recordSide ps i) (λ j u. length u ≤ length s + j) m (λ j u a b. omega (arith, one_more i j u)) s (omega arith) in
+      let m = length (polygon_at ps i).corners in
+      let g : length (each (record_side ps i) 0 m s) ≤ length s + m =
+      each_at (record_side ps i) (λ j u. length u ≤ length s + j) m (λ j u a b. omega (arith, one_more i j u)) s (omega arith) in
       let e : i + 1 ≡ suc i = omega arith in
-      omega (arith, rw e at (corners-left ps i h))) es (omega arith) in
+      omega (arith, rw e at (corners_left ps i h))) es (omega arith) in
       omega arith
 
-  at_length : (i j : ℕ) (es : List Edge) (f : Found) → length (joinAt i j es f) ≡ length es
-  unfolding joinAt
-  at_length i j es (At k) = length-set es k (joinedTo i j (get_or es k no_edge))
+  at_length : (i j : ℕ) (es : List Edge) (f : Found) → length (join_at i j es f) ≡ length es
+  unfolding join_at
+  at_length i j es (At k) = length-set es k (joined_to i j (get_or es k no_edge))
   at_length i j es Nothing = refl
 
-  join-length : (i j : ℕ) (es : List Edge) → length (joinSide ps i j es) ≡ length es
-  unfolding joinSide
-  join-length i j es =
-      let a = sideStart (polygonAt ps i).corners j in
-      let b = sideEnd (polygonAt ps i).corners j in
+  join_length : (i j : ℕ) (es : List Edge) → length (join_side ps i j es) ≡ length es
+  unfolding join_side
+  join_length i j es =
+      let a = side_start (polygon_at ps i).corners j in
+      let b = side_end (polygon_at ps i).corners j in
       cond_ind (λ (fs : List Edge). length fs ≡ length es) (ltb b a) (at_length i j es (newest b a es)) refl
 
-  pub joined_length : (es : List Edge) → length (eachSide ps (joinSide ps) es) ≡ length es
-  unfolding eachSide
-  joined_length es = each-kept _ length (λ i s. each-kept (joinSide ps i) length (join-length i) 0 (length (polygonAt ps i).corners) s) 0 (length ps) es
+  pub joined_length : (es : List Edge) → length (each_side ps (join_side ps) es) ≡ length es
+  unfolding each_side
+  joined_length es = each_kept _ length (λ i s. each_kept (join_side ps i) length (join_length i) 0 (length (polygon_at ps i).corners) s) 0 (length ps) es
 
-  pub edges_few : length (edgesOf ps) ≤ cornersIn ps
-  unfolding edgesOf
-  edges_few = omega (arith, joined_length (eachSide ps (recordSide ps) []), recorded-few [])
+  pub edges_few : length (edges_of ps) ≤ corners_in ps
+  unfolding edges_of
+  edges_few = omega (arith, joined_length (each_side ps (record_side ps) []), recorded_few [])

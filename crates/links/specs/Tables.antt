@@ -5,7 +5,7 @@ use Rattle.mem.specs.Chain.{firsts, nexts}
 use Rattle.mem.specs.Shelves.{shelved}
 use Rattle.rules.specs.Links.{no_edge}
 use Rattle.rules.specs.declared.Edge.{Edge}
-use Rattle.records.specs.Layout.{edgeSize, edges_at, edgeRecords}
+use Rattle.records.specs.Layout.{edge_size, edges_at, edge_records}
 use Rattle.links.specs.declared.edges.EdgeTables.{EdgeTables}
 
 -- the vertex where record k starts
@@ -15,12 +15,12 @@ low_of es k = (get_or es k no_edge).low
 -- the records es in the tables at t, of nv vertices: each vertex's first record, the records, each record's next; every other word is w's
 unfoldable pub edged : List ℕ → EdgeTables → ℕ → List Edge → List ℕ
 edged w t nv es =
-    shelved w t.firsts (firsts (low_of es) nv (length es)) t.edges (edgeRecords es) t.nexts (nexts (low_of es) (length es))
+    shelved w t.firsts (firsts (low_of es) nv (length es)) t.edges (edge_records es) t.nexts (nexts (low_of es) (length es))
 
 -- the tables have room for nv vertices and n records, and each lies behind the one before
 pub record Room (w : List ℕ) (t : EdgeTables) (nv n : ℕ) : Type 0 where
   pub firsts : t.firsts + nv ≤ t.edges
-  pub edges : t.edges + n * edgeSize ≤ t.nexts
+  pub edges : t.edges + n * edge_size ≤ t.nexts
   pub nexts : t.nexts + n ≤ length w
   pub few : n < 2 ^ 32
 

@@ -1,10 +1,10 @@
 // The links of the polygons' sides: both polygons of a record that is joined to another polygon store each other's number.
 ghost use Rattle.std.specs.Prelude.{◌≡◌, ◌<◌, length, get_or, set};
 ghost use Rattle.mem.specs.Slice.{splice};
-ghost use Rattle.rules.specs.Links.{no_edge, edgesOf, linksOf};
-ghost use Rattle.records.specs.Layout.{polygonsAt, edges_at};
+ghost use Rattle.rules.specs.Links.{no_edge, edges_of, links_of};
+ghost use Rattle.records.specs.Layout.{polygons_at, edges_at};
 ghost use Rattle.links.specs.Tables.{edged, Room, Rewritten};
-ghost use Rattle.links.specs.Ready.{cornersIn, Sides, LinkReady, linkPlace, linkRecords, store_words, StoreReady};
+ghost use Rattle.links.specs.Ready.{corners_in, Sides, LinkReady, link_place, link_records, store_words, StoreReady};
 
 use crate::edges::EdgeTables;
 use crate::sides::{join_sides, record_sides};
@@ -15,8 +15,8 @@ use words::fill::fill;
 // The sides of the np polygons at o are recorded and joined, whatever the tables held. The result says how many records
 // there are.
 fn link_sides(work: &mut [u32], o: usize, np: usize, nv: usize, t: EdgeTables) -> usize
-    requires { Sides work.old o np nv t × Room work.old t nv (cornersIn (polygonsAt work.old o np)) }
-    ensures { Rewritten work.old work.new t nv 0 (edgesOf (polygonsAt work.old o np)) (cornersIn (polygonsAt work.old o np)) result }
+    requires { Sides work.old o np nv t × Room work.old t nv (corners_in (polygons_at work.old o np)) }
+    ensures { Rewritten work.old work.new t nv 0 (edges_of (polygons_at work.old o np)) (corners_in (polygons_at work.old o np)) result }
 {
     fill(work, t.firsts, nv, 0);
     let ne = record_sides(work, o, np, nv, t, 0);
@@ -26,8 +26,8 @@ fn link_sides(work: &mut [u32], o: usize, np: usize, nv: usize, t: EdgeTables) -
 
 // Link j of polygon i becomes n.
 fn set_link(work: &mut [u32], lo: usize, i: u32, j: u32, n: u32)
-    requires { linkPlace lo i j < length work.old }
-    ensures { work.new ≡ set work.old (linkPlace lo i j) n }
+    requires { link_place lo i j < length work.old }
+    ensures { work.new ≡ set work.old (link_place lo i j) n }
 {
     work[lo + i as usize * LINK_SIZE + j as usize] = n;
 }
@@ -55,7 +55,7 @@ pub fn build_mesh_adjacency(
     lo: usize,
 )
     requires { LinkReady work.old o np nv t lo }
-    ensures { work.new ≡ splice (edged work.old t nv (edgesOf (polygonsAt work.old o np))) lo (linkRecords (linksOf (polygonsAt work.old o np))) }
+    ensures { work.new ≡ splice (edged work.old t nv (edges_of (polygons_at work.old o np))) lo (link_records (links_of (polygons_at work.old o np))) }
 {
     let ne = link_sides(work, o, np, nv, t);
     fill(work, lo, np * LINK_SIZE, NONE);

@@ -1,6 +1,6 @@
 // The records of sides, chained by their lower vertex: one more, the newest that is free, and one joined.
 ghost use Rattle.std.specs.Prelude.{◌≡◌, [], ◌∷◌, ◌++◌, ◌+◌, ◌<◌};
-ghost use Rattle.rules.specs.Links.{isFree, newest, joinAt};
+ghost use Rattle.rules.specs.Links.{is_free, newest, join_at};
 ghost use Rattle.rules.specs.declared.Found.TheVariants.{At};
 ghost use Rattle.records.specs.Layout.{edges_at};
 ghost use Rattle.links.specs.Tables.{edged, Room, Edged};
@@ -32,7 +32,7 @@ pub fn put_edge(work: &mut [u32], t: EdgeTables, nv: usize, ne: usize, e: Edge)
 
 // Whether e runs from low to high and is not yet joined to another polygon.
 fn is_free(e: Edge, low: u32, high: u32) -> bool
-    ensures { result ≡ isFree low high e }
+    ensures { result ≡ is_free low high e }
 {
     (e.low == low) & ((e.high == high) & (e.other == e.poly))
 }
@@ -59,7 +59,7 @@ pub fn find_free(work: &[u32], t: EdgeTables, nv: usize, ne: usize, low: u32, hi
 // Record k is joined to side j of polygon i.
 pub fn join_edge(work: &mut [u32], t: EdgeTables, nv: usize, ne: usize, k: usize, i: u32, j: u32)
     requires { Edged work.old t nv ne × (k < ne) }
-    ensures { work.new ≡ edged work.old t nv (joinAt i j (edges_at work.old t.edges ne) (At k)) }
+    ensures { work.new ≡ edged work.old t nv (join_at i j (edges_at work.old t.edges ne) (At k)) }
 {
     let e = load_edge(work, t.edges, ne, k);
     let f = Edge {

@@ -1,13 +1,13 @@
 // Open sides on the grid's edge become portals.
 ghost use Rattle.std.specs.Prelude.{◌≡◌, get_or};
 ghost use Rattle.mem.specs.Slice.{view, splice};
-ghost use Rattle.rules.specs.Mesh.{place_of, sideStart, sideEnd};
-ghost use Rattle.rules.specs.Portals.{portalOf, portalAt, portalsIn};
+ghost use Rattle.rules.specs.Mesh.{place_of, side_start, side_end};
+ghost use Rattle.rules.specs.Portals.{portal_of, portal_at, portals_in};
 ghost use Rattle.laws.specs.Lists.{All};
 ghost use Rattle.laws.specs.Merge.{Below};
-ghost use Rattle.records.specs.Layout.{verticesAt, Placed};
-ghost use Rattle.records.specs.Values.{cornersOf, On};
-ghost use Rattle.links.specs.Ready.{linkRecords, LinksInHand, PortalReady, portalsAt};
+ghost use Rattle.records.specs.Layout.{vertices_at, Placed};
+ghost use Rattle.records.specs.Values.{corners_of, On};
+ghost use Rattle.links.specs.Ready.{link_records, LinksInHand, PortalReady, portals_at};
 
 use plane::ring::next;
 use records::polygon::{LINK_SIZE, NONE, Poly, corner, load_at, place_of};
@@ -16,7 +16,7 @@ use rules::Point;
 // The link of an open side from a to b: with both ends on x=0, z=h, x=w or z=0, tried so, it is 65,536 plus 0, 1, 2 or 3;
 // else it stays open.
 pub fn portal_of(w: u16, h: u16, a: Point, b: Point) -> u32
-    ensures { result ≡ portalOf w h a b }
+    ensures { result ≡ portal_of w h a b }
 {
     if (a.x == 0) & (b.x == 0) {
         return 65536;
@@ -35,8 +35,8 @@ pub fn portal_of(w: u16, h: u16, a: Point, b: Point) -> u32
 
 // The link of side j of p if it is open.
 fn side_portal(work: &[u32], vo: usize, nv: usize, p: Poly, j: usize, w: u16, h: u16) -> u32
-    requires { Placed work.now vo nv × All (Below nv) (cornersOf p) × On p j }
-    ensures { result ≡ portalOf w h (place_of (verticesAt work.now vo nv) (sideStart (cornersOf p) j)) (place_of (verticesAt work.now vo nv) (sideEnd (cornersOf p) j)) }
+    requires { Placed work.now vo nv × All (Below nv) (corners_of p) × On p j }
+    ensures { result ≡ portal_of w h (place_of (vertices_at work.now vo nv) (side_start (corners_of p) j)) (place_of (vertices_at work.now vo nv) (side_end (corners_of p) j)) }
 {
     let a = place_of(work, vo, nv, p, j);
     let b = place_of(work, vo, nv, p, next(j, p.n));
@@ -55,7 +55,7 @@ fn portal_at(
     h: u16,
 ) -> u32
     requires { LinksInHand work.now vo nv p at × On p j }
-    ensures { result ≡ portalAt (verticesAt work.now vo nv) w h (cornersOf p) (view work.now at p.n) j }
+    ensures { result ≡ portal_at (vertices_at work.now vo nv) w h (corners_of p) (view work.now at p.n) j }
 {
     let link = work[at + j];
     if link == NONE {
@@ -67,7 +67,7 @@ fn portal_at(
 // The same for each side of p.
 fn mark_polygon(work: &mut [u32], vo: usize, nv: usize, p: Poly, at: usize, w: u16, h: u16)
     requires { LinksInHand work.old vo nv p at }
-    ensures { work.new ≡ splice work.old at (portalsIn (verticesAt work.old vo nv) w h (cornersOf p) (view work.old at p.n)) }
+    ensures { work.new ≡ splice work.old at (portals_in (vertices_at work.old vo nv) w h (corners_of p) (view work.old at p.n)) }
 {
     let mut j = 0;
     while j < p.n {
@@ -89,7 +89,7 @@ pub fn mark_portals(
     border: u16,
 )
     requires { PortalReady work.old vo nv o np lo }
-    ensures { work.new ≡ splice work.old lo (linkRecords (portalsAt work.old vo nv o np lo w h border)) }
+    ensures { work.new ≡ splice work.old lo (link_records (portals_at work.old vo nv o np lo w h border)) }
 {
     if border == 0 {
         return;

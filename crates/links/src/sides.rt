@@ -2,10 +2,10 @@
 // newest free record.
 ghost use Rattle.std.specs.Prelude.{◌+◌, ◌≤◌, length};
 ghost use Rattle.mem.specs.Loops.{each};
-ghost use Rattle.records.specs.Layout.{mostCorners, edges_at, polygonsAt};
-ghost use Rattle.records.specs.Values.{cornersOf, On};
+ghost use Rattle.records.specs.Layout.{most_corners, edges_at, polygons_at};
+ghost use Rattle.records.specs.Values.{corners_of, On};
 ghost use Rattle.links.specs.Tables.{Room, Edged, Rewritten};
-ghost use Rattle.links.specs.Ready.{recordOf, join_of, cornersIn, InHand, Sides, SidesRecorded, SidesJoined};
+ghost use Rattle.links.specs.Ready.{record_of, join_of, corners_in, InHand, Sides, SidesRecorded, SidesJoined};
 
 use crate::edges::{EdgeTables, find_free, join_edge, put_edge};
 use records::polygon::{Poly, corner, load_at, side_end};
@@ -23,7 +23,7 @@ fn record_side(
     j: usize,
 ) -> usize
     requires { InHand work.old t nv ne i p × Room work.old t nv (ne + 1) × On p j }
-    ensures { Rewritten work.old work.new t nv ne (recordOf (cornersOf p) i j (edges_at work.old t.edges ne)) 1 result }
+    ensures { Rewritten work.old work.new t nv ne (record_of (corners_of p) i j (edges_at work.old t.edges ne)) 1 result }
 {
     let a = corner(p, j);
     let b = side_end(p, j);
@@ -44,8 +44,8 @@ fn record_side(
 
 // The same for each side of polygon i.
 fn record_polygon(work: &mut [u32], t: EdgeTables, nv: usize, ne: usize, i: usize, p: Poly) -> usize
-    requires { InHand work.old t nv ne i p × Room work.old t nv (ne + p.n) × (p.n ≤ mostCorners) }
-    ensures { Rewritten work.old work.new t nv ne (each (recordOf (cornersOf p) i) 0 (length (cornersOf p)) (edges_at work.old t.edges ne)) p.n result }
+    requires { InHand work.old t nv ne i p × Room work.old t nv (ne + p.n) × (p.n ≤ most_corners) }
+    ensures { Rewritten work.old work.new t nv ne (each (record_of (corners_of p) i) 0 (length (corners_of p)) (edges_at work.old t.edges ne)) p.n result }
 {
     let mut n = ne;
     let mut j = 0;
@@ -65,7 +65,7 @@ pub fn record_sides(
     t: EdgeTables,
     ne: usize,
 ) -> usize
-    requires { Sides work.old o np nv t × Edged work.old t nv ne × Room work.old t nv (ne + cornersIn (polygonsAt work.old o np)) }
+    requires { Sides work.old o np nv t × Edged work.old t nv ne × Room work.old t nv (ne + corners_in (polygons_at work.old o np)) }
     ensures { SidesRecorded work.old work.new o np nv t ne result }
 {
     let mut n = ne;
@@ -81,7 +81,7 @@ pub fn record_sides(
 // Side j of polygon i, whose value is p, is joined to the newest free record if it runs from a higher to a lower vertex.
 fn join_side(work: &mut [u32], t: EdgeTables, nv: usize, ne: usize, i: usize, p: Poly, j: usize)
     requires { InHand work.old t nv ne i p × On p j }
-    ensures { Rewritten work.old work.new t nv ne (join_of (cornersOf p) i j (edges_at work.old t.edges ne)) 0 ne }
+    ensures { Rewritten work.old work.new t nv ne (join_of (corners_of p) i j (edges_at work.old t.edges ne)) 0 ne }
 {
     let a = corner(p, j);
     let b = side_end(p, j);
@@ -100,8 +100,8 @@ fn join_side(work: &mut [u32], t: EdgeTables, nv: usize, ne: usize, i: usize, p:
 
 // The same for each side of polygon i.
 fn join_polygon(work: &mut [u32], t: EdgeTables, nv: usize, ne: usize, i: usize, p: Poly)
-    requires { InHand work.old t nv ne i p × (p.n ≤ mostCorners) }
-    ensures { Rewritten work.old work.new t nv ne (each (join_of (cornersOf p) i) 0 (length (cornersOf p)) (edges_at work.old t.edges ne)) 0 ne }
+    requires { InHand work.old t nv ne i p × (p.n ≤ most_corners) }
+    ensures { Rewritten work.old work.new t nv ne (each (join_of (corners_of p) i) 0 (length (corners_of p)) (edges_at work.old t.edges ne)) 0 ne }
 {
     let mut j = 0;
     while j < p.n {

@@ -2,7 +2,7 @@
 -- key, and `nexts` for each number i that of the highest one below i with i's key. So a walk from the first of k along the next words meets exactly the
 -- numbers with the key k, in falling order, and what it meets first is the highest that fits. Serves the buckets of vertices and the edges of a vertex alike.
 -- Assumes nothing.
--- Key: `chain-lists`: a walk lists exactly the numbers with its key, falling; `firsts_more` and `nexts-more`: what one more number makes of the words.
+-- Key: `chain_lists`: a walk lists exactly the numbers with its key, falling; `firsts_more` and `nexts_more`: what one more number makes of the words.
 use Rattle.std.specs.Prelude.{◌≡◌, cond, ◌≢◌, eqb, length, set, replicate}
 use Rattle.std.proofs.Math.Path.{refl, sym, ap}
 use Rattle.std.proofs.Common.{◌∙◌, length-set, ext_get_or, get_or-set_same, get_or-set_other}
@@ -13,8 +13,8 @@ use Rattle.std.proofs.Math.Numerals.{add-one}
 use native.Mathlib.Omega.{arith}
 use borrow.Author.Tests.{eq-eqb, ne_eqb}
 use Rattle.std.proofs.Math.ListN.{get_or}
-use Rattle.mem.specs.Cases.{eq-or-ne}
-use Rattle.mem.specs.Tab.{tab, tab-snoc, tab-cong, tab-const, length-tab, getD-tab}
+use Rattle.mem.specs.Cases.{eq_or_ne}
+use Rattle.mem.specs.Tab.{tab, tab_snoc, tab_cong, tab_const, length_tab, get_or_tab}
 
 -- the word of the highest number below n whose key is k
 unfoldable pub highest : (ℕ → ℕ) → ℕ → ℕ → ℕ
@@ -22,19 +22,19 @@ highest key k zero = 0
 highest key k (suc n) = cond (eqb (key n) k) (n + 1) (highest key k n)
 
 module _ (key : ℕ → ℕ) (k : ℕ) where
-  pub highest-same : (n : ℕ) → key n ≡ k → highest key k (n + 1) ≡ n + 1
+  pub highest_same : (n : ℕ) → key n ≡ k → highest key k (n + 1) ≡ n + 1
   unfolding highest
-  highest-same n e = rw (add-one n, eq-eqb (key n) k e) (add-one n)
+  highest_same n e = rw (add-one n, eq-eqb (key n) k e) (add-one n)
 
-  pub highest-other : (n : ℕ) → key n ≢ k → highest key k (n + 1) ≡ highest key k n
+  pub highest_other : (n : ℕ) → key n ≢ k → highest key k (n + 1) ≡ highest key k n
   unfolding highest
-  highest-other n e = rw (add-one n, ne_eqb (key n) k e)
+  highest_other n e = rw (add-one n, ne_eqb (key n) k e)
 
   -- the number that a word names is below n, and has the key
-  pub highest-at : (n i : ℕ) → highest key k n ≡ i + 1 → (i < n) × (key i ≡ k)
+  pub highest_at : (n i : ℕ) → highest key k n ≡ i + 1 → (i < n) × (key i ≡ k)
   unfolding highest
-  highest-at zero i e = absurd (omega arith)
-  highest-at (suc n) i e =
+  highest_at zero i e = absurd (omega arith)
+  highest_at (suc n) i e =
       ⊎_elim
       (λ (q : key n ≡ k).
       let s : n + 1 ≡ i + 1 = rw (eq-eqb (key n) k q) at e in
@@ -42,15 +42,15 @@ module _ (key : ℕ → ℕ) (k : ℕ) where
       (omega arith, ap key (sym t) ∙ q))
       (λ (q : key n ≢ k).
       let s : highest key k n ≡ i + 1 = rw (ne_eqb (key n) k q) at e in
-      let r = highest-at n i s in
+      let r = highest_at n i s in
       (omega (arith, r.0), r.1))
-      (eq-or-ne (key n) k)
+      (eq_or_ne (key n) k)
 
-  pub highest-most : (n : ℕ) → highest key k n ≤ n
+  pub highest_most : (n : ℕ) → highest key k n ≤ n
   unfolding highest
-  highest-most zero = omega arith
-  highest-most (suc n) =
-      ⊎_elim (λ (q : key n ≡ k). rw (eq-eqb (key n) k q) (omega arith)) (λ (q : key n ≢ k). rw (ne_eqb (key n) k q) (omega (arith, highest-most n))) (eq-or-ne (key n) k)
+  highest_most zero = omega arith
+  highest_most (suc n) =
+      ⊎_elim (λ (q : key n ≡ k). rw (eq-eqb (key n) k q) (omega arith)) (λ (q : key n ≢ k). rw (ne_eqb (key n) k q) (omega (arith, highest_most n))) (eq_or_ne (key n) k)
 
   -- what is found among the numbers below n, g n, does not depend on numbers with other keys
   module _ {A : Type 0} (g : ℕ → A) (blind : (j : ℕ) → key j ≢ k → g (j + 1) ≡ g j) where
@@ -62,7 +62,7 @@ module _ (key : ℕ → ℕ) (k : ℕ) where
         ⊎_elim
         (λ (q : key n ≡ k). let s : n + 1 ≡ 0 = rw (eq-eqb (key n) k q) at e in absurd (omega arith))
         (λ (q : key n ≢ k). let s : highest key k n ≡ 0 = rw (ne_eqb (key n) k q) at e in (rw (add-one n) at (blind n q)) ∙ walk_end n s)
-        (eq-or-ne (key n) k)
+        (eq_or_ne (key n) k)
 
     -- the chain is at i: nothing between i and n has the key
     pub walk_at : (n i : ℕ) → highest key k n ≡ i + 1 → g n ≡ g (i + 1)
@@ -72,13 +72,13 @@ module _ (key : ℕ → ℕ) (k : ℕ) where
         ⊎_elim
         (λ (q : key n ≡ k). let s : n + 1 ≡ i + 1 = rw (eq-eqb (key n) k q) at e in ap g (sym (add-one n) ∙ s))
         (λ (q : key n ≢ k). let s : highest key k n ≡ i + 1 = rw (ne_eqb (key n) k q) at e in (rw (add-one n) at (blind n q)) ∙ walk_at n i s)
-        (eq-or-ne (key n) k)
+        (eq_or_ne (key n) k)
 
 -- only the keys below n count
-pub highest-cong : (key other : ℕ → ℕ) (k n : ℕ) → ((j : ℕ) → j < n → key j ≡ other j) → highest key k n ≡ highest other k n
+pub highest_cong : (key other : ℕ → ℕ) (k n : ℕ) → ((j : ℕ) → j < n → key j ≡ other j) → highest key k n ≡ highest other k n
 unfolding highest
-highest-cong key other k zero h = refl
-highest-cong key other k (suc n) h = rw (h n (omega arith), highest-cong key other k n (λ j a. h j (omega arith)))
+highest_cong key other k zero h = refl
+highest_cong key other k (suc n) h = rw (h n (omega arith), highest_cong key other k n (λ j a. h j (omega arith)))
 
 -- ---- the words of n numbers, with keys below m: the first of each key, and the next of each number
 unfoldable pub firsts : (ℕ → ℕ) → ℕ → ℕ → List ℕ
@@ -88,53 +88,53 @@ unfoldable pub nexts : (ℕ → ℕ) → ℕ → List ℕ
 nexts key n = tab (λ i. highest key (key i) i) n
 
 module _ (key : ℕ → ℕ) (m n : ℕ) where
-  pub length-firsts : length (firsts key m n) ≡ m
+  pub length_firsts : length (firsts key m n) ≡ m
   unfolding firsts
-  length-firsts = length-tab _ m
+  length_firsts = length_tab _ m
 
-  pub length-nexts : length (nexts key n) ≡ n
+  pub length_nexts : length (nexts key n) ≡ n
   unfolding nexts
-  length-nexts = length-tab _ n
+  length_nexts = length_tab _ n
 
   pub firsts_at : (k : ℕ) → k < m → get_or (firsts key m n) k 0 ≡ highest key k n
   unfolding firsts
-  firsts_at k h = getD-tab _ m k 0 h
+  firsts_at k h = get_or_tab _ m k 0 h
 
-  pub nexts-at : (i : ℕ) → i < n → get_or (nexts key n) i 0 ≡ highest key (key i) i
+  pub nexts_at : (i : ℕ) → i < n → get_or (nexts key n) i 0 ≡ highest key (key i) i
   unfolding nexts
-  nexts-at i h = getD-tab _ n i 0 h
+  nexts_at i h = get_or_tab _ n i 0 h
 
 -- no numbers yet: zeros
-pub firsts-none : (key : ℕ → ℕ) (m : ℕ) → firsts key m 0 ≡ replicate m 0
+pub firsts_none : (key : ℕ → ℕ) (m : ℕ) → firsts key m 0 ≡ replicate m 0
 unfolding firsts highest
-firsts-none key m = tab-const m 0
+firsts_none key m = tab_const m 0
 
-pub nexts-none : (key : ℕ → ℕ) → nexts key 0 ≡ []
+pub nexts_none : (key : ℕ → ℕ) → nexts key 0 ≡ []
 unfolding nexts tab
-nexts-none key = refl
+nexts_none key = refl
 
 -- one more number, n: it becomes the first of its key, and the one that was first comes next
 module _ (key other : ℕ → ℕ) (m n : ℕ) (same : (j : ℕ) → j < n → key j ≡ other j) (h : other n < m) where
   pub firsts_more : firsts other m (n + 1) ≡ set (firsts key m n) (other n) (n + 1)
   firsts_more =
-      ext_get_or 0 (firsts other m (n + 1)) (set (firsts key m n) (other n) (n + 1)) (simp (length-set, length-firsts))
-      (λ k a. at k (rw length-firsts at a))
+      ext_get_or 0 (firsts other m (n + 1)) (set (firsts key m n) (other n) (n + 1)) (simp (length-set, length_firsts))
+      (λ k a. at k (rw length_firsts at a))
     where
       at : (k : ℕ) → k < m → get_or (firsts other m (n + 1)) k 0 ≡ get_or (set (firsts key m n) (other n) (n + 1)) k 0
       at k a = firsts_at other m (n + 1) k a ∙ ⊎_elim
-          (λ (q : k ≡ other n). rw (q, get_or-set_same (firsts key m n) (other n) (n + 1) 0 (rw length-firsts h)) (highest-same other (other n) n refl))
+          (λ (q : k ≡ other n). rw (q, get_or-set_same (firsts key m n) (other n) (n + 1) 0 (rw length_firsts h)) (highest_same other (other n) n refl))
           (λ (q : k ≢ other n). rw (get_or-set_other (firsts key m n) (other n) k (n + 1) 0 q, firsts_at key m n k a)
-          (highest-other other k n (λ e. q (sym e)) ∙ sym (highest-cong key other k n same)))
-          (eq-or-ne k (other n))
+          (highest_other other k n (λ e. q (sym e)) ∙ sym (highest_cong key other k n same)))
+          (eq_or_ne k (other n))
 
-  pub nexts-more : nexts other (n + 1) ≡ nexts key n ++ (get_or (firsts key m n) (other n) 0 ∷ [])
+  pub nexts_more : nexts other (n + 1) ≡ nexts key n ++ (get_or (firsts key m n) (other n) 0 ∷ [])
   unfolding nexts
-  nexts-more =
-      tab-snoc _ n
+  nexts_more =
+      tab_snoc _ n
       ∙ ap (λ (l : List ℕ). l ++ (highest other (other n) n ∷ []))
-      (tab-cong _ _ n (λ i a. sym (ap (λ (k : ℕ). highest key k i) (same i a) ∙ highest-cong key other (other i) i (λ j b. same j (omega arith)))))
+      (tab_cong _ _ n (λ i a. sym (ap (λ (k : ℕ). highest key k i) (same i a) ∙ highest_cong key other (other i) i (λ j b. same j (omega arith)))))
       ∙ ap (λ (x : ℕ). tab (λ i. highest key (key i) i) n ++ (x ∷ []))
-      (sym (firsts_at key m n (other n) h ∙ highest-cong key other (other n) n same))
+      (sym (firsts_at key m n (other n) h ∙ highest_cong key other (other n) n same))
 
 -- ---- what a walk lists
 
@@ -149,24 +149,24 @@ followed next zero link = []
 followed next (suc f) zero = []
 followed next (suc f) (suc i) = i ∷ followed next f (next i)
 
-followed-none : (next : ℕ → ℕ) (f : ℕ) → followed next f 0 ≡ []
+followed_none : (next : ℕ → ℕ) (f : ℕ) → followed next f 0 ≡ []
 unfolding followed
-followed-none next zero = refl
-followed-none next (suc f) = refl
+followed_none next zero = refl
+followed_none next (suc f) = refl
 
 module _ (key : ℕ → ℕ) (m n k : ℕ) where
   follow : (f j : ℕ) → j ≤ n → j ≤ f → followed (λ i. get_or (nexts key n) i 0) f (highest key k j) ≡ keyed key k j
   unfolding highest keyed followed
-  follow f zero a b = followed-none _ f
+  follow f zero a b = followed_none _ f
   follow zero (suc j) a b = absurd (omega arith)
   follow (suc f) (suc j) a b =
       ⊎_elim
       (λ (q : key j ≡ k). rw (eq-eqb (key j) k q, add-one j) (ap (λ (r : List ℕ). j ∷ r)
-      (ap (followed (λ i. get_or (nexts key n) i 0) f) (nexts-at key m n j (omega arith) ∙ ap (λ (b : ℕ). highest key b j) q)
+      (ap (followed (λ i. get_or (nexts key n) i 0) f) (nexts_at key m n j (omega arith) ∙ ap (λ (b : ℕ). highest key b j) q)
       ∙ follow f j (omega arith) (omega arith))))
       (λ (q : key j ≢ k). rw (ne_eqb (key j) k q) (follow (suc f) j (omega arith) (omega arith)))
-      (eq-or-ne (key j) k)
+      (eq_or_ne (key j) k)
 
   -- n steps are enough
-  pub chain-lists : k < m → followed (λ i. get_or (nexts key n) i 0) n (get_or (firsts key m n) k 0) ≡ keyed key k n
-  chain-lists h = ap (followed (λ i. get_or (nexts key n) i 0) n) (firsts_at key m n k h) ∙ follow n n (omega arith) (omega arith)
+  pub chain_lists : k < m → followed (λ i. get_or (nexts key n) i 0) n (get_or (firsts key m n) k 0) ≡ keyed key k n
+  chain_lists h = ap (followed (λ i. get_or (nexts key n) i 0) n) (firsts_at key m n k h) ∙ follow n n (omega arith) (omega arith)

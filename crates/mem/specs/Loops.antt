@@ -19,13 +19,13 @@ module _ {A : Type 0} (z : A) (op : A → A → A) (f : ℕ → A) where
   over i n = run i (n - i)
 
   -- the loop's turn, in the loop's form
-  pub over-turn : (i n : ℕ) → i < n → over i n ≡ op (f i) (over (i + 1) n)
+  pub over_turn : (i n : ℕ) → i < n → over i n ≡ op (f i) (over (i + 1) n)
   unfolding over run
-  over-turn i n h = let p : n - i ≡ suc (n - suc i) = omega arith in rw (p, add-one) refl
+  over_turn i n h = let p : n - i ≡ suc (n - suc i) = omega arith in rw (p, add-one) refl
 
-  pub over-end : (i n : ℕ) → n ≤ i → over i n ≡ z
+  pub over_end : (i n : ℕ) → n ≤ i → over i n ≡ z
   unfolding over run
-  over-end i n h = let p : n - i ≡ 0 = omega arith in rw p refl
+  over_end i n h = let p : n - i ≡ 0 = omega arith in rw p refl
 
 -- The invariant of a loop over i..n whose answer is that of the rest: `whole` is the answer of all, k what the loops around it still do with this loop's answer
 pub record Left {A : Type 0} (z : A) (op : A → A → A) (f : ℕ → A) (k : A → A) (whole : A) (n i : ℕ) : Type 0 where
@@ -33,40 +33,40 @@ pub record Left {A : Type 0} (z : A) (op : A → A → A) (f : ℕ → A) (k : A
 
 module _ {A : Type 0} {z : A} {op : A → A → A} {f : ℕ → A} {k : A → A} {whole : A} {n i : ℕ} (l : Left z op f k whole n i) where
   pub turn : i < n → whole ≡ k (op (f i) (over z op f (i + 1) n))
-  turn h = l.same ∙ ap k (over-turn z op f i n h)
+  turn h = l.same ∙ ap k (over_turn z op f i n h)
 
   -- a turn that finds nothing
   pub next : i < n → ((r : A) → op (f i) r ≡ r) → Left z op f k whole n (i + 1)
   next h e = record { same = turn h ∙ ap k (e (over z op f (i + 1) n)) }
 
   pub end : n ≤ i → whole ≡ k z
-  end h = l.same ∙ ap k (over-end z op f i n h)
+  end h = l.same ∙ ap k (over_end z op f i n h)
 
 -- block i of n blocks of k words lies within m words
-pub block-fits : (i n k m : ℕ) → i < n → n * k ≤ m → i * k + k ≤ m
-block-fits i n k m h f = rw (← suc-mul i k) (le_trans (mul-le-mul_right k h) f)
+pub block_fits : (i n k m : ℕ) → i < n → n * k ≤ m → i * k + k ≤ m
+block_fits i n k m h f = rw (← suc-mul i k) (le_trans (mul-le-mul_right k h) f)
 
 module _ {A : Type 0} (z : A) (op : A → A → A) (f g : ℕ → A) where
-  run-cong : (m i : ℕ) → ((j : ℕ) → i ≤ j → j < i + m → f j ≡ g j) → run z op f i m ≡ run z op g i m
+  run_cong : (m i : ℕ) → ((j : ℕ) → i ≤ j → j < i + m → f j ≡ g j) → run z op f i m ≡ run z op g i m
   unfolding run
-  run-cong zero i h = refl
-  run-cong (suc m) i h = rw (h i (omega arith) (omega arith), run-cong m (suc i) (λ j a b. h j (omega arith) (omega arith)))
+  run_cong zero i h = refl
+  run_cong (suc m) i h = rw (h i (omega arith) (omega arith), run_cong m (suc i) (λ j a b. h j (omega arith) (omega arith)))
 
   -- what is found depends on what f says from i up to n alone
-  pub over-cong : (i n : ℕ) → ((j : ℕ) → i ≤ j → j < n → f j ≡ g j) → over z op f i n ≡ over z op g i n
+  pub over_cong : (i n : ℕ) → ((j : ℕ) → i ≤ j → j < n → f j ≡ g j) → over z op f i n ≡ over z op g i n
   unfolding over
-  over-cong i n h = run-cong (n - i) i (λ j a b. h j a (omega arith))
+  over_cong i n h = run_cong (n - i) i (λ j a b. h j a (omega arith))
 
 module _ {A : Type 0} (z : A) (op : A → A → A) (f : ℕ → A) (P : A → Type 0) (none : P z) (join : (a b : A) → P a → P b → P (op a b)) where
-  run-ind : (m i : ℕ) → ((j : ℕ) → i ≤ j → j < i + m → P (f j)) → P (run z op f i m)
+  run_ind : (m i : ℕ) → ((j : ℕ) → i ≤ j → j < i + m → P (f j)) → P (run z op f i m)
   unfolding run
-  run-ind zero i h = none
-  run-ind (suc m) i h = join (f i) (run z op f (suc i) m) (h i (omega arith) (omega arith)) (run-ind m (suc i) (λ j a b. h j (omega arith) (omega arith)))
+  run_ind zero i h = none
+  run_ind (suc m) i h = join (f i) (run z op f (suc i) m) (h i (omega arith) (omega arith)) (run_ind m (suc i) (λ j a b. h j (omega arith) (omega arith)))
 
   -- what holds of the end, of each f j, and is kept by op, holds of the whole
-  pub over-ind : (i n : ℕ) → ((j : ℕ) → i ≤ j → j < n → P (f j)) → P (over z op f i n)
+  pub over_ind : (i n : ℕ) → ((j : ℕ) → i ≤ j → j < n → P (f j)) → P (over z op f i n)
   unfolding over
-  over-ind i n h = run-ind (n - i) i (λ j a b. h j a (omega arith))
+  over_ind i n h = run_ind (n - i) i (λ j a b. h j a (omega arith))
 
 -- `each step i n s`: the state s after `step i`, `step (i + 1)`, .. up to `step (n - 1)`. What a loop over i..n that changes its state at each turn leaves
 module _ {S : Type 0} (step : ℕ → S → S) where
@@ -81,52 +81,52 @@ module _ {S : Type 0} (step : ℕ → S → S) where
   unfolding each steps
   each_turn i n s h = let p : n - i ≡ suc (n - suc i) = omega arith in rw (p, add-one) refl
 
-  pub each-end : (i n : ℕ) (s : S) → n ≤ i → each i n s ≡ s
+  pub each_end : (i n : ℕ) (s : S) → n ≤ i → each i n s ≡ s
   unfolding each steps
-  each-end i n s h = let p : n - i ≡ 0 = omega arith in rw p refl
+  each_end i n s h = let p : n - i ≡ 0 = omega arith in rw p refl
 
   -- what every step keeps, all of them keep
-  steps-kept : {B : Type 0} (P : S → B) → ((i : ℕ) (s : S) → P (step i s) ≡ P s) → (m i : ℕ) (s : S) → P (steps i m s) ≡ P s
+  steps_kept : {B : Type 0} (P : S → B) → ((i : ℕ) (s : S) → P (step i s) ≡ P s) → (m i : ℕ) (s : S) → P (steps i m s) ≡ P s
   unfolding steps
-  steps-kept P h zero i s = refl
-  steps-kept P h (suc m) i s = steps-kept P h m (suc i) (step i s) ∙ h i s
+  steps_kept P h zero i s = refl
+  steps_kept P h (suc m) i s = steps_kept P h m (suc i) (step i s) ∙ h i s
 
-  pub each-kept : {B : Type 0} (P : S → B) → ((i : ℕ) (s : S) → P (step i s) ≡ P s) → (i n : ℕ) (s : S) → P (each i n s) ≡ P s
+  pub each_kept : {B : Type 0} (P : S → B) → ((i : ℕ) (s : S) → P (step i s) ≡ P s) → (i n : ℕ) (s : S) → P (each i n s) ≡ P s
   unfolding each
-  each-kept P h i n s = steps-kept P h (n - i) i s
+  each_kept P h i n s = steps_kept P h (n - i) i s
 
 -- steps that say the same leave the same
 module _ {S : Type 0} (step turn : ℕ → S → S) (alike : (i : ℕ) (s : S) → step i s ≡ turn i s) where
-  steps-cong : (m i : ℕ) (s : S) → steps step i m s ≡ steps turn i m s
+  steps_cong : (m i : ℕ) (s : S) → steps step i m s ≡ steps turn i m s
   unfolding steps
-  steps-cong zero i s = refl
-  steps-cong (suc m) i s = steps-cong m (suc i) (step i s) ∙ ap (steps turn (suc i) m) (alike i s)
+  steps_cong zero i s = refl
+  steps_cong (suc m) i s = steps_cong m (suc i) (step i s) ∙ ap (steps turn (suc i) m) (alike i s)
 
-  pub each-cong : (i n : ℕ) (s : S) → each step i n s ≡ each turn i n s
+  pub each_cong : (i n : ℕ) (s : S) → each step i n s ≡ each turn i n s
   unfolding each
-  each-cong i n s = steps-cong (n - i) i s
+  each_cong i n s = steps_cong (n - i) i s
 
 module _ {S : Type 0} (step : ℕ → S → S) (P : S → Type 0) where
-  steps-ind : (m i : ℕ) → ((j : ℕ) (s : S) → i ≤ j → j < i + m → P s → P (step j s)) → (s : S) → P s → P (steps step i m s)
+  steps_ind : (m i : ℕ) → ((j : ℕ) (s : S) → i ≤ j → j < i + m → P s → P (step j s)) → (s : S) → P s → P (steps step i m s)
   unfolding steps
-  steps-ind zero i h s p = p
-  steps-ind (suc m) i h s p = steps-ind m (suc i) (λ j t a b q. h j t (omega arith) (omega arith) q) (step i s) (h i s (omega arith) (omega arith) p)
+  steps_ind zero i h s p = p
+  steps_ind (suc m) i h s p = steps_ind m (suc i) (λ j t a b q. h j t (omega arith) (omega arith) q) (step i s) (h i s (omega arith) (omega arith) p)
 
   -- what every step from i up to n keeps holds at the end
-  pub each-ind : (i n : ℕ) → ((j : ℕ) (s : S) → i ≤ j → j < n → P s → P (step j s)) → (s : S) → P s → P (each step i n s)
+  pub each_ind : (i n : ℕ) → ((j : ℕ) (s : S) → i ≤ j → j < n → P s → P (step j s)) → (s : S) → P s → P (each step i n s)
   unfolding each
-  each-ind i n h s p = steps-ind (n - i) i (λ j t a b q. h j t a (omega arith) q) s p
+  each_ind i n h s p = steps_ind (n - i) i (λ j t a b q. h j t a (omega arith) q) s p
 
 -- what is known at each place, step by step
 module _ {S : Type 0} (step : ℕ → S → S) (P : ℕ → S → Type 0) (n : ℕ) (kept : (i : ℕ) (s : S) → i < n → P i s → P (suc i) (step i s)) where
-  steps-at : (m i : ℕ) (s : S) → i + m ≡ n → P i s → P n (steps step i m s)
+  steps_at : (m i : ℕ) (s : S) → i + m ≡ n → P i s → P n (steps step i m s)
   unfolding steps
-  steps-at zero i s h p = let e : i ≡ n = omega arith in subst (λ (k : ℕ). P k s) e p
-  steps-at (suc m) i s h p = steps-at m (suc i) (step i s) (omega arith) (kept i s (omega arith) p)
+  steps_at zero i s h p = let e : i ≡ n = omega arith in subst (λ (k : ℕ). P k s) e p
+  steps_at (suc m) i s h p = steps_at m (suc i) (step i s) (omega arith) (kept i s (omega arith) p)
 
   pub each_at : (s : S) → P 0 s → P n (each step 0 n s)
   unfolding each
-  each_at s p = steps-at (n - 0) 0 s (omega arith) p
+  each_at s p = steps_at (n - 0) 0 s (omega arith) p
 
 -- The invariant of such a loop: the rest of the steps from the state now give the whole
 pub record Doing {S : Type 0} (step : ℕ → S → S) (whole : S) (n : ℕ) (s : S) (i : ℕ) : Type 0 where
@@ -134,11 +134,11 @@ pub record Doing {S : Type 0} (step : ℕ → S → S) (whole : S) (n : ℕ) (s 
 
 module _ {S : Type 0} {step : ℕ → S → S} {whole : S} {n : ℕ} {s : S} {i : ℕ} (d : Doing step whole n s i) where
   -- the turn leaves t, which is what the step says
-  pub doing-more : {t : S} → i < n → t ≡ step i s → Doing step whole n t (i + 1)
-  doing-more h e = record { same = d.same ∙ each_turn step i n s h ∙ ap (each step (i + 1) n) (sym e) }
+  pub doing_more : {t : S} → i < n → t ≡ step i s → Doing step whole n t (i + 1)
+  doing_more h e = record { same = d.same ∙ each_turn step i n s h ∙ ap (each step (i + 1) n) (sym e) }
 
   pub doing_end : n ≤ i → s ≡ whole
-  doing_end h = sym (d.same ∙ each-end step i n s h)
+  doing_end h = sym (d.same ∙ each_end step i n s h)
 
 -- ---- n turns that are all alike
 module _ {S : Type 0} (turn : S → S) where
@@ -146,29 +146,29 @@ module _ {S : Type 0} (turn : S → S) where
   times zero s = s
   times (suc n) s = times n (turn s)
 
-  pub times-end : (s : S) → times 0 s ≡ s
+  pub times_end : (s : S) → times 0 s ≡ s
   unfolding times
-  times-end s = refl
+  times_end s = refl
 
-  pub times-turn : (n : ℕ) (s : S) → 0 < n → times n s ≡ times (n - 1) (turn s)
+  pub times_turn : (n : ℕ) (s : S) → 0 < n → times n s ≡ times (n - 1) (turn s)
   unfolding times
-  times-turn zero s h = absurd (omega arith)
-  times-turn (suc n) s h = let p : suc n - 1 ≡ n = omega arith in rw p refl
+  times_turn zero s h = absurd (omega arith)
+  times_turn (suc n) s h = let p : suc n - 1 ≡ n = omega arith in rw p refl
 
   -- one turn more at the end
-  pub times-last : (n : ℕ) (s : S) → times (suc n) s ≡ turn (times n s)
+  pub times_last : (n : ℕ) (s : S) → times (suc n) s ≡ turn (times n s)
   unfolding times
-  times-last zero s = refl
-  times-last (suc n) s = times-last n (turn s)
+  times_last zero s = refl
+  times_last (suc n) s = times_last n (turn s)
 
   -- a state that a turn leaves as it is
-  pub times-still : (n : ℕ) (s : S) → turn s ≡ s → times n s ≡ s
+  pub times_still : (n : ℕ) (s : S) → turn s ≡ s → times n s ≡ s
   unfolding times
-  times-still zero s e = refl
-  times-still (suc n) s e = ap (times n) e ∙ times-still n s e
+  times_still zero s e = refl
+  times_still (suc n) s e = ap (times n) e ∙ times_still n s e
 
   -- what each turn keeps
-  pub times-ind : (P : S → Type 0) → ((s : S) → P s → P (turn s)) → (n : ℕ) (s : S) → P s → P (times n s)
+  pub times_ind : (P : S → Type 0) → ((s : S) → P s → P (turn s)) → (n : ℕ) (s : S) → P s → P (times n s)
   unfolding times
-  times-ind P h zero s p = p
-  times-ind P h (suc n) s p = times-ind P h n (turn s) (h s p)
+  times_ind P h zero s p = p
+  times_ind P h (suc n) s p = times_ind P h n (turn s) (h s p)

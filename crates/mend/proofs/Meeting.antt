@@ -8,9 +8,9 @@ use lib.Dec.{ltb}
 use borrow.Author.Tests.{lt-ltb, le-ltb}
 use lib.ListN.{length, get_or, take}
 use lib.Seq.{get_or-take, length-take-le}
-use Rattle.laws.specs.Lists.{all-at}
-use Rattle.laws.specs.MendNumbers.{samePlace}
-use Rattle.laws.specs.MendPass.{pass-few, pass-lost, pass-turned, pass-joined}
+use Rattle.laws.specs.Lists.{all_at}
+use Rattle.laws.specs.MendNumbers.{same_place}
+use Rattle.laws.specs.MendPass.{pass_few, pass_lost, pass_turned, pass_joined}
 use Rattle.mend.specs.declared.pass.Meets.TheVariants.{Top, Second, Neither}
 use Rattle.mend.specs.Losing.{BothIn}
 use Rattle.mend.specs.Walking.{MeetsReady, state_of, Met}
@@ -23,9 +23,9 @@ module _ (ns ws : List ℕ) (top e j : ℕ) (r : MeetsReady ns ws top e j) where
   on_stack i h = get_or-take top ws i 0 h
 
   -- a number of the stack, and j, are of vertices that are there
-  pub both-in : (p i : ℕ) → i < top → p ≡ get_or ws i 0 → BothIn ns p j
-  both-in p i h q =
-      let below = all-at r.high i 0 (omega (arith, long)) in
+  pub both_in : (p i : ℕ) → i < top → p ≡ get_or ws i 0 → BothIn ns p j
+  both_in p i h q =
+      let below = all_at r.high i 0 (omega (arith, long)) in
       let same = on_stack i h in
       record { one = omega (arith, below, same, r.inside); other = omega (arith, r.next, r.inside) }
 
@@ -33,40 +33,40 @@ module _ (ns ws : List ℕ) (top e j : ℕ) (r : MeetsReady ns ws top e j) where
   few : top + (e - j) < 3 → ltb (length (take top ws) + (e - j)) 3 ≡ true
   few h = ap (λ (k : ℕ). ltb (k + (e - j)) 3) long ∙ lt-ltb (top + (e - j)) 3 h
 
-  not-few : 3 ≤ top + (e - j) → ltb (length (take top ws) + (e - j)) 3 ≡ false
-  not-few h = ap (λ (k : ℕ). ltb (k + (e - j)) 3) long ∙ le-ltb (top + (e - j)) 3 h
+  not_few : 3 ≤ top + (e - j) → ltb (length (take top ws) + (e - j)) 3 ≡ false
+  not_few h = ap (λ (k : ℕ). ltb (k + (e - j)) 3) long ∙ le-ltb (top + (e - j)) 3 h
 
-  at_top : (p : ℕ) (t : Bool) → p ≡ get_or ws (top - 1) 0 → samePlace ns p j ≡ t → samePlace ns (get_or (take top ws) (length (take top ws) - 1) 0) j ≡ t
-  at_top p t q a = ap (λ (k : ℕ). samePlace ns k j)
+  at_top : (p : ℕ) (t : Bool) → p ≡ get_or ws (top - 1) 0 → same_place ns p j ≡ t → same_place ns (get_or (take top ws) (length (take top ws) - 1) 0) j ≡ t
+  at_top p t q a = ap (λ (k : ℕ). same_place ns k j)
       (ap (λ (n : ℕ). get_or (take top ws) (n - 1) 0) long ∙ on_stack (top - 1) (omega (arith, r.some)) ∙ sym q) ∙ a
 
-  at_second : (p : ℕ) (t : Bool) → 2 ≤ top → p ≡ get_or ws (top - 2) 0 → samePlace ns p j ≡ t
-      → (ltb 1 (length (take top ws)) && samePlace ns (get_or (take top ws) (length (take top ws) - 2) 0) j) ≡ t
+  at_second : (p : ℕ) (t : Bool) → 2 ≤ top → p ≡ get_or ws (top - 2) 0 → same_place ns p j ≡ t
+      → (ltb 1 (length (take top ws)) && same_place ns (get_or (take top ws) (length (take top ws) - 2) 0) j) ≡ t
   at_second p t h q a =
-      let same = ap (λ (k : ℕ). samePlace ns k j) (ap (λ (n : ℕ). get_or (take top ws) (n - 2) 0) long ∙ on_stack (top - 2) (omega arith) ∙ sym q) ∙ a in
+      let same = ap (λ (k : ℕ). same_place ns k j) (ap (λ (n : ℕ). get_or (take top ws) (n - 2) 0) long ∙ on_stack (top - 2) (omega arith) ∙ sym q) ∙ a in
       rw (lt-ltb 1 (length (take top ws)) (omega (arith, long))) same
 
-  low : top < 2 → (ltb 1 (length (take top ws)) && samePlace ns (get_or (take top ws) (length (take top ws) - 2) 0) j) ≡ false
+  low : top < 2 → (ltb 1 (length (take top ws)) && same_place ns (get_or (take top ws) (length (take top ws) - 2) 0) j) ≡ false
   low h = rw (le-ltb 1 (length (take top ws)) (omega (arith, long))) refl
 
   -- and what is answered
-  pub met-few : top + (e - j) < 3 → Met Neither ns ws top e j
+  pub met_few : top + (e - j) < 3 → Met Neither ns ws top e j
   unfolding Met
-  met-few h t lost = pass-few t e j (state_of ns ws top lost) (few h)
+  met_few h t lost = pass_few t e j (state_of ns ws top lost) (few h)
 
   module _ (h : 3 ≤ top + (e - j)) (p : ℕ) (q : p ≡ get_or ws (top - 1) 0) where
-    pub met-top : samePlace ns p j ≡ true → Met Top ns ws top e j
+    pub met_top : same_place ns p j ≡ true → Met Top ns ws top e j
     unfolding Met
-    met-top a t lost = pass-lost t e j (state_of ns ws top lost) (not-few h) (at_top p true q a)
+    met_top a t lost = pass_lost t e j (state_of ns ws top lost) (not_few h) (at_top p true q a)
 
-    pub met-low : samePlace ns p j ≡ false → top < 2 → Met Neither ns ws top e j
+    pub met_low : same_place ns p j ≡ false → top < 2 → Met Neither ns ws top e j
     unfolding Met
-    met-low a k t lost = pass-joined t e j (state_of ns ws top lost) (not-few h) (at_top p false q a) (low k)
+    met_low a k t lost = pass_joined t e j (state_of ns ws top lost) (not_few h) (at_top p false q a) (low k)
 
-    pub met-second : (x : ℕ) → samePlace ns p j ≡ false → 2 ≤ top → x ≡ get_or ws (top - 2) 0 → samePlace ns x j ≡ true → Met Second ns ws top e j
+    pub met_second : (x : ℕ) → same_place ns p j ≡ false → 2 ≤ top → x ≡ get_or ws (top - 2) 0 → same_place ns x j ≡ true → Met Second ns ws top e j
     unfolding Met
-    met-second x a k f b = (k, λ t lost. pass-turned t e j (state_of ns ws top lost) (not-few h) (at_top p false q a) (at_second x true k f b))
+    met_second x a k f b = (k, λ t lost. pass_turned t e j (state_of ns ws top lost) (not_few h) (at_top p false q a) (at_second x true k f b))
 
-    pub met-neither : (x : ℕ) → samePlace ns p j ≡ false → 2 ≤ top → x ≡ get_or ws (top - 2) 0 → samePlace ns x j ≡ false → Met Neither ns ws top e j
+    pub met_neither : (x : ℕ) → same_place ns p j ≡ false → 2 ≤ top → x ≡ get_or ws (top - 2) 0 → same_place ns x j ≡ false → Met Neither ns ws top e j
     unfolding Met
-    met-neither x a k f b t lost = pass-joined t e j (state_of ns ws top lost) (not-few h) (at_top p false q a) (at_second x false k f b)
+    met_neither x a k f b t lost = pass_joined t e j (state_of ns ws top lost) (not_few h) (at_top p false q a) (at_second x false k f b)

@@ -1,11 +1,11 @@
 -- The points of a contour are passed: what stands in memory, what is asked for, and what is left. Definitions only.
 use Rattle.std.specs.Prelude.{◌≡◌, Bool, cond, List, ℕ, ◌+◌, ◌-◌, ◌*◌, ◌≤◌, ◌<◌, length, take, drop}
 use Rattle.mem.specs.Slice.{splice}
-use Rattle.rules.specs.Job.{jobStride}
-use Rattle.rules.specs.MendCall.{verticesMost}
+use Rattle.rules.specs.Job.{job_stride}
+use Rattle.rules.specs.MendCall.{vertices_most}
 use Rattle.laws.specs.Lists.{All}
 use Rattle.laws.specs.MendPass.{Passing, joining, losing, turning, pass}
-use Rattle.laws.specs.MendWalk.{passedAll}
+use Rattle.laws.specs.MendWalk.{passed_all}
 use Rattle.mend.specs.declared.pass.Walk.{Walk}
 use Rattle.mend.specs.declared.pass.Meets.{Meets}
 use Rattle.mend.specs.declared.pass.Meets.TheVariants.{Top, Second, Neither}
@@ -40,7 +40,7 @@ pub record MeetsReady (ns ws : List ℕ) (top e j : ℕ) : Type 0 where
   pub room : top ≤ length ws
   pub high : All (λ k. k < e) (take top ws)
   pub next : j < e
-  pub inside : e * jobStride ≤ length ns
+  pub inside : e * job_stride ≤ length ns
 
 -- the state of which only the stack's height and the numbers are known
 abbrev pub state_of : List ℕ → List ℕ → ℕ → List ℕ → Passing
@@ -60,8 +60,8 @@ pub record PassReady (writes : Bool) (ns ls ws : List ℕ) (e j : ℕ) (at : Wal
   pub is : begun.writes ≡ writes
   pub stands : Stands begun state ns ls ws at
   pub meets : MeetsReady ns ws at.top e j
-  pub small : e ≤ verticesMost
-  pub few : at.lost ≤ verticesMost
+  pub small : e ≤ vertices_most
+  pub few : at.lost ≤ vertices_most
   pub fits : at.top < length ws
   pub room : cond writes (begun.from + length (pass writes e j state).lost) 0 ≤ length ls
 
@@ -73,11 +73,11 @@ pub record Passed (writes : Bool) (e j : ℕ) (at r : Walk) (ns ls ws ns' ls' ws
 pub record AllReady (writes : Bool) (ns ls ws : List ℕ) (first e lost : ℕ) : Type 0 where
   pub some : first < e
   pub fits : e ≤ first + length ws
-  pub small : e ≤ verticesMost
+  pub small : e ≤ vertices_most
   pub few : lost ≤ first
-  pub inside : e * jobStride ≤ length ns
-  pub room : cond writes (lost + length (passedAll writes ns first (e - first)).lost) 0 ≤ length ls
+  pub inside : e * job_stride ≤ length ns
+  pub room : cond writes (lost + length (passed_all writes ns first (e - first)).lost) 0 ≤ length ls
 
 pub record AllPassed (writes : Bool) (first e lost : ℕ) (r : Walk) (ns ls ws ns' ls' ws' : List ℕ) : Type 0 where
-  pub stands : Stands (record { writes = writes; list = ls; from = lost; work = ws; most = e - first }) (passedAll writes ns first (e - first)) ns' ls' ws' r
-  pub count : r.top + length (passedAll writes ns first (e - first)).lost ≡ e - first
+  pub stands : Stands (record { writes = writes; list = ls; from = lost; work = ws; most = e - first }) (passed_all writes ns first (e - first)) ns' ls' ws' r
+  pub count : r.top + length (passed_all writes ns first (e - first)).lost ≡ e - first

@@ -1,7 +1,7 @@
 // The mender: a job's contours, or one contour, are mended in place.
 ghost use Rattle.std.specs.Prelude.{◌&&◌, ◌≡◌, leb, eqb, length};
-ghost use Rattle.rules.specs.Job.{sumOver};
-ghost use Rattle.rules.specs.MendCall.{longer, longest, mendOutcome, mendReplyOf, mendExit, oneContour};
+ghost use Rattle.rules.specs.Job.{sum_over};
+ghost use Rattle.rules.specs.MendCall.{longer, longest, mend_outcome, mend_reply_of, mend_exit, one_contour};
 ghost use Rattle.mend.specs.Call.{lent_of, WriteReady, Written, MendReady, Ended};
 
 use crate::contours::{count_lost, mend_all};
@@ -15,7 +15,7 @@ const MOST_VERTICES: usize = 4294967295;
 
 // Whether the lengths are those of n vertices. They are counted before they are summed, so that no sum wraps.
 fn lengths_agree(lengths: &[u32], n: usize) -> bool
-    ensures { result ≡ (leb (length lengths.now) 65535 && eqb (sumOver (λ k. k) lengths.now) n) }
+    ensures { result ≡ (leb (length lengths.now) 65535 && eqb (sum_over (λ k. k) lengths.now) n) }
 {
     if MOST_CONTOURS < lengths.len() {
         return false;
@@ -93,8 +93,8 @@ pub fn mend_job(
     list: &mut [u32],
     work: &mut [u32],
 ) -> MendReply
-    ensures reply { result ≡ mendReplyOf (mendOutcome (lent_of lengths.old numbers.old list.old work.old)) }
-    ensures words { lent_of lengths.new numbers.new list.new work.new ≡ mendExit
+    ensures reply { result ≡ mend_reply_of (mend_outcome (lent_of lengths.old numbers.old list.old work.old)) }
+    ensures words { lent_of lengths.new numbers.new list.new work.new ≡ mend_exit
         (lent_of lengths.old numbers.old list.old work.old) }
 {
     let n = numbers.len() / JOB_STRIDE;
@@ -113,10 +113,10 @@ pub fn mend_job(
 
 // One contour is mended, which has all the numbers.
 pub fn mend(numbers: &mut [u16], list: &mut [u32], work: &mut [u32]) -> MendReply
-    ensures reply { result ≡ mendReplyOf (mendOutcome (oneContour numbers.old list.old work.old)) }
-    ensures numbers { numbers.new ≡ (mendExit (oneContour numbers.old list.old work.old)).numbers }
-    ensures list { list.new ≡ (mendExit (oneContour numbers.old list.old work.old)).list }
-    ensures work { work.new ≡ (mendExit (oneContour numbers.old list.old work.old)).work }
+    ensures reply { result ≡ mend_reply_of (mend_outcome (one_contour numbers.old list.old work.old)) }
+    ensures numbers { numbers.new ≡ (mend_exit (one_contour numbers.old list.old work.old)).numbers }
+    ensures list { list.new ≡ (mend_exit (one_contour numbers.old list.old work.old)).list }
+    ensures work { work.new ≡ (mend_exit (one_contour numbers.old list.old work.old)).work }
 {
     let n = numbers.len() / JOB_STRIDE;
     if n * JOB_STRIDE < numbers.len() {

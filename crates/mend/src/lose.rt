@@ -1,6 +1,6 @@
 // One point is lost.
 ghost use Rattle.std.specs.Prelude.{◌≡◌};
-ghost use Rattle.laws.specs.MendNumbers.{carried, samePlace};
+ghost use Rattle.laws.specs.MendNumbers.{carried, same_place};
 ghost use Rattle.mend.specs.Losing.{BothIn, LoseReady, Lost};
 
 use checks::counts::JOB_STRIDE;
@@ -8,7 +8,7 @@ use checks::counts::JOB_STRIDE;
 // Whether the vertices p and q are equal in x and z.
 pub fn same_place(numbers: &[u16], p: usize, q: usize) -> bool
     requires { BothIn numbers.now p q }
-    ensures { result ≡ samePlace numbers.now p q }
+    ensures { result ≡ same_place numbers.now p q }
 {
     let a = p * JOB_STRIDE;
     let b = q * JOB_STRIDE;

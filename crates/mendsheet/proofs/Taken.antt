@@ -5,42 +5,42 @@ use mathlib.Core.List.{List}
 use Prim.Native.Nat.{ℕ, ◌*◌}
 use native.Mathlib.Omega.{arith}
 use lib.ListN.{length, take}
-use Rattle.rules.specs.Job.{jobStride}
-use Rattle.rules.specs.Sheet.{Sheet, Read, readSheet}
-use Rattle.rules.specs.MendSheet.{mendedSheet, sheetText, mendText, lostLines, lostText}
+use Rattle.rules.specs.Job.{job_stride}
+use Rattle.rules.specs.Sheet.{Sheet, Read, read_sheet}
+use Rattle.rules.specs.MendSheet.{mended_sheet, sheet_text, mend_text, lost_lines, lost_text}
 use Rattle.sheet.specs.declared.heading.Heading.{Heading}
 use Rattle.sheet.specs.Parts.{whole_part, whole_numbers}
-use Rattle.sheet.specs.Reading.{withLists, readBytes, ListsReady, TakenAs}
-use Rattle.sheet.specs.Room.{outMost}
-use Rattle.sheet.specs.Texts.{taken-text}
-use Rattle.mendsheet.specs.Print.{lostTextOf}
-use Rattle.mendsheet.specs.Mended.{FromSheet, mendedText, MendReady, lossesOf, LossesReady}
+use Rattle.sheet.specs.Reading.{with_lists, read_bytes, ListsReady, TakenAs}
+use Rattle.sheet.specs.Room.{out_most}
+use Rattle.sheet.specs.Texts.{taken_text}
+use Rattle.mendsheet.specs.Print.{lost_text_of}
+use Rattle.mendsheet.specs.Mended.{FromSheet, mended_text, MendReady, losses_of, LossesReady}
 
 module _ {w : Read Sheet} {x : Heading} {c v : ℕ} {ls rs cs ns : List ℕ} (a : TakenAs w x c v ls rs cs ns) (l : ListsReady ls rs cs ns) where
-  from-sheet : FromSheet (take c ls) (take (v * jobStride) ns)
-  from-sheet =
+  from_sheet : FromSheet (take c ls) (take (v * job_stride) ns)
+  from_sheet =
       let p = whole_part c ls a.contours l.lengths in
       let q = whole_numbers v ns a.vertices l.numbers in
       record { few = omega (arith, a.contours); declared = omega (arith, a.declared, a.vertices); whole = omega (arith, a.declared) }
 
-  pub mend-ready : {out : List ℕ} → length out ≡ outMost → MendReady (take c ls) (take c rs) (take c cs) (take (v * jobStride) ns) out
-  mend-ready h =
+  pub mend_ready : {out : List ℕ} → length out ≡ out_most → MendReady (take c ls) (take c rs) (take c cs) (take (v * job_stride) ns) out
+  mend_ready h =
       let p = whole_part c ls a.contours l.lengths in
       record {
-        sheet = from-sheet;
+        sheet = from_sheet;
         regions = sym (whole_part c rs a.contours l.regions) ∙ p;
         codes = sym (whole_part c cs a.contours l.codes) ∙ p;
         room = omega arith;
       }
 
-  pub losses-asked : {out : List ℕ} → length out ≡ outMost → LossesReady (take c ls) (take c ls) (take (v * jobStride) ns) out
-  losses-asked h = record { few = from-sheet.few; sheet = from-sheet; room = omega arith }
+  pub losses_asked : {out : List ℕ} → length out ≡ out_most → LossesReady (take c ls) (take c ls) (take (v * job_stride) ns) out
+  losses_asked h = record { few = from-sheet.few; sheet = from_sheet; room = omega arith }
 
-module _ (t : List ℕ) {x : Heading} {c v : ℕ} {ls rs cs ns : List ℕ} (a : TakenAs (readBytes t) x c v ls rs cs ns) where
-  pub mend-text : mendedText x (take c ls) (take c rs) (take c cs) (take (v * jobStride) ns) ≡ mendText t
-  unfolding mendedText mendText
-  mend-text = sym (taken-text readSheet (λ s. sheetText (mendedSheet s)) t a.same)
+module _ (t : List ℕ) {x : Heading} {c v : ℕ} {ls rs cs ns : List ℕ} (a : TakenAs (read_bytes t) x c v ls rs cs ns) where
+  pub mend_text_lem : mended_text x (take c ls) (take c rs) (take c cs) (take (v * job_stride) ns) ≡ mend_text t
+  unfolding mended_text mend_text
+  mend_text_lem = sym (taken_text read_sheet (λ s. sheet_text (mended_sheet s)) t a.same)
 
-  pub lost-text : lossesOf (take c ls) (take c ls) (take (v * jobStride) ns) ≡ lostText t
-  unfolding lossesOf lostTextOf lostText lostLines withLists
-  lost-text = sym (taken-text readSheet (λ s. lostLines s.job) t a.same)
+  pub lost_text_lem : losses_of (take c ls) (take c ls) (take (v * job_stride) ns) ≡ lost_text t
+  unfolding losses_of lost_text_of lost_text lost_lines with_lists
+  lost_text_lem = sym (taken_text read_sheet (λ s. lost_lines s.job) t a.same)

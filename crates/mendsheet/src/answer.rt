@@ -1,9 +1,9 @@
 // A sheet that was read is mended, and its text printed.
 ghost use Rattle.std.specs.Prelude.{◌≡◌, ◌≤◌, get_or};
-ghost use Rattle.rules.specs.MendCall.{mendWords};
+ghost use Rattle.rules.specs.MendCall.{mend_words};
 ghost use Rattle.lines.specs.Print.{Printed};
-ghost use Rattle.sheet.specs.Room.{outMost};
-ghost use Rattle.mendsheet.specs.Mended.{mendedText, MendReady, lossesOf, LossesReady};
+ghost use Rattle.sheet.specs.Room.{out_most};
+ghost use Rattle.mendsheet.specs.Mended.{mended_text, MendReady, losses_of, LossesReady};
 
 use crate::contours::put_sheet;
 use crate::lost::put_lost;
@@ -13,7 +13,7 @@ use sheet::heading::Heading;
 
 // How many points are lost, by the mender's reply; a refusal, which no sheet gets, loses none.
 fn lost_in(reply: MendReply) -> usize
-    ensures { result ≡ get_or (mendWords reply) 1 0 }
+    ensures { result ≡ get_or (mend_words reply) 1 0 }
 {
     match reply {
         MendReply::Mended(lost, _) => lost as usize,
@@ -26,7 +26,7 @@ fn lost_in(reply: MendReply) -> usize
 
 // How many points are kept, in the same way.
 fn kept_in(reply: MendReply) -> usize
-    ensures { result ≡ get_or (mendWords reply) 2 0 }
+    ensures { result ≡ get_or (mend_words reply) 2 0 }
 {
     match reply {
         MendReply::Mended(_, kept) => kept as usize,
@@ -47,9 +47,9 @@ pub fn put_mended(
     out: &mut [u8],
 ) -> usize
     requires { MendReady lengths.old regions.now codes.now numbers.old out.old }
-    ensures printed { Printed (mendedText x lengths.old regions.now codes.now numbers.old)
+    ensures printed { Printed (mended_text x lengths.old regions.now codes.now numbers.old)
         out.old out.new 0 result }
-    ensures short { result ≤ outMost }
+    ensures short { result ≤ out_most }
 {
     let mut list = [0u32; 96];
     let mut work = [0u32; 96];
@@ -61,8 +61,8 @@ pub fn put_mended(
 // The points that contours of these lengths lose; the lengths in `copy` are mended.
 pub fn put_losses(lengths: &[u32], copy: &mut [u32], numbers: &mut [u16], out: &mut [u8]) -> usize
     requires { LossesReady lengths.now copy.old numbers.old out.old }
-    ensures printed { Printed (lossesOf lengths.now copy.old numbers.old) out.old out.new 0 result }
-    ensures short { result ≤ outMost }
+    ensures printed { Printed (losses_of lengths.now copy.old numbers.old) out.old out.new 0 result }
+    ensures short { result ≤ out_most }
 {
     let mut list = [0u32; 96];
     let mut work = [0u32; 96];

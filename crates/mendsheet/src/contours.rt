@@ -1,17 +1,17 @@
 // A sheet is printed: its heading, and its contours, each with its vertices.
-ghost use Rattle.rules.specs.MendSheet.{tracedLine, headingText, sheetText};
+ghost use Rattle.rules.specs.MendSheet.{traced_line, heading_text, sheet_text};
 ghost use Rattle.lines.specs.Print.{Room, Printed};
-ghost use Rattle.lines.specs.Pieces.{textsFrom};
-ghost use Rattle.sheet.specs.Reading.{sheetOf, withLists};
-ghost use Rattle.mendsheet.specs.Print.{contoursOf, PointsReady, ContoursReady, SheetReady};
+ghost use Rattle.lines.specs.Pieces.{texts_from};
+ghost use Rattle.sheet.specs.Reading.{sheet_of, with_lists};
+ghost use Rattle.mendsheet.specs.Print.{contours_of, PointsReady, ContoursReady, SheetReady};
 
 use sheet::heading::Heading;
 use sheet::rows::{put_line16, put_line32, put_top};
 
 // The heading lines, as they were read: unit, cell, nvp and grid.
 fn put_heading(out: &mut [u8], x: Heading) -> usize
-    requires { Room out.old (headingText (sheetOf x)) 0 }
-    ensures { Printed (headingText (sheetOf x)) out.old out.new 0 result }
+    requires { Room out.old (heading_text (sheet_of x)) 0 }
+    ensures { Printed (heading_text (sheet_of x)) out.old out.new 0 result }
 {
     let a = put_top(out, x.inches, x.size, x.height);
     let limit = [x.nvp];
@@ -23,7 +23,7 @@ fn put_heading(out: &mut [u8], x: Heading) -> usize
 // The `v` lines of the vertices from `first` up to `end`.
 fn put_points(out: &mut [u8], at: usize, numbers: &[u16], first: usize, end: usize) -> usize
     requires { PointsReady out.old at numbers.now first end }
-    ensures { Printed (textsFrom (tracedLine numbers.now) first end) out.old out.new at result }
+    ensures { Printed (texts_from (traced_line numbers.now) first end) out.old out.new at result }
 {
     let mut to = at;
     let mut k = first;
@@ -45,7 +45,7 @@ fn put_contours(
     numbers: &[u16],
 ) -> usize
     requires { ContoursReady out.old at lengths.now regions.now codes.now numbers.now }
-    ensures { Printed (contoursOf lengths.now regions.now codes.now numbers.now)
+    ensures { Printed (contours_of lengths.now regions.now codes.now numbers.now)
         out.old out.new at result }
 {
     let mut to = at;
@@ -72,7 +72,7 @@ pub fn put_sheet(
     numbers: &[u16],
 ) -> usize
     requires { SheetReady out.old x lengths.now regions.now codes.now numbers.now }
-    ensures { Printed (sheetText (withLists (sheetOf x) lengths.now regions.now codes.now numbers.now))
+    ensures { Printed (sheet_text (with_lists (sheet_of x) lengths.now regions.now codes.now numbers.now))
         out.old out.new 0 result }
 {
     let a = put_heading(out, x);

@@ -1,8 +1,8 @@
 // The lines of lost points are printed.
 ghost use Rattle.std.specs.Prelude.{◌≡◌, ◌≤◌, length};
-ghost use Rattle.rules.specs.MendSheet.{contourLinesAbove, lostLine};
+ghost use Rattle.rules.specs.MendSheet.{contour_lines_above, lost_line};
 ghost use Rattle.lines.specs.Print.{Printed};
-ghost use Rattle.mendsheet.specs.Print.{lostTextOf, LostLineReady, LostReady};
+ghost use Rattle.mendsheet.specs.Print.{lost_text_of, LostLineReady, LostReady};
 
 use lines::cells::put_cell;
 use lines::print::put_text;
@@ -12,7 +12,7 @@ const HEADING_LINES: u64 = 4;
 
 // How many contour lines stand above vertex k, of contours of these lengths.
 fn contours_above(lengths: &[u32], k: u32) -> usize
-    ensures { (result ≡ contourLinesAbove lengths.now k) × (result ≤ length lengths.now) }
+    ensures { (result ≡ contour_lines_above lengths.now k) × (result ≤ length lengths.now) }
 {
     let mut rest = k;
     let mut c = 0;
@@ -29,7 +29,7 @@ fn contours_above(lengths: &[u32], k: u32) -> usize
 // The line of the lost vertex k: its number, and its line in the sheet.
 fn put_lost_line(out: &mut [u8], at: usize, lengths: &[u32], k: u32) -> usize
     requires { LostLineReady out.old at lengths.now k }
-    ensures { Printed (lostLine lengths.now k) out.old out.new at result }
+    ensures { Printed (lost_line lengths.now k) out.old out.new at result }
 {
     let above = contours_above(lengths, k) as u64;
     let line = HEADING_LINES + above + k as u64 + 1;
@@ -43,7 +43,7 @@ fn put_lost_line(out: &mut [u8], at: usize, lengths: &[u32], k: u32) -> usize
 // A line for each vertex that was lost, of contours of these lengths.
 pub fn put_lost(out: &mut [u8], lengths: &[u32], lost: &[u32]) -> usize
     requires { LostReady out.old lengths.now lost.now }
-    ensures { Printed (lostTextOf lengths.now lost.now) out.old out.new 0 result }
+    ensures { Printed (lost_text_of lengths.now lost.now) out.old out.new 0 result }
 {
     let mut to = 0;
     let mut i = 0;

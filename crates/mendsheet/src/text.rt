@@ -1,6 +1,6 @@
 // A sheet becomes a text: mended, or the points that it loses.
 ghost use Rattle.std.specs.Prelude.{◌≤◌, ◌≡◌, length, take};
-ghost use Rattle.rules.specs.MendSheet.{mendText, lostText};
+ghost use Rattle.rules.specs.MendSheet.{mend_text, lost_text};
 ghost use Rattle.lines.specs.Print.{Printed};
 
 use crate::answer::{put_losses, put_mended};
@@ -10,7 +10,7 @@ use sheet::rows::put_refused;
 // The sheet with its contours mended: its bytes in, and the text at the beginning of `out`. Any bytes may be handed in. The
 // answer is the text's length.
 pub fn mend_sheet(text: &[u8], out: &mut [u8; 65536]) -> usize
-    ensures printed { Printed (mendText text.now) out.old out.new 0 result }
+    ensures printed { Printed (mend_text text.now) out.old out.new 0 result }
     ensures counted { (result ≤ length out.new) × (result ≡ length (take result out.new)) }
 {
     let mut lengths = [0u32; 32];
@@ -32,7 +32,7 @@ pub fn mend_sheet(text: &[u8], out: &mut [u8; 65536]) -> usize
 
 // A line for each point that the mended sheet has lost, in the same way.
 pub fn lost_sheet(text: &[u8], out: &mut [u8; 65536]) -> usize
-    ensures printed { Printed (lostText text.now) out.old out.new 0 result }
+    ensures printed { Printed (lost_text text.now) out.old out.new 0 result }
     ensures counted { (result ≤ length out.new) × (result ≡ length (take result out.new)) }
 {
     let mut lengths = [0u32; 32];

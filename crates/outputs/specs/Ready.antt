@@ -3,16 +3,16 @@
 use Rattle.std.specs.Prelude.{◌≡◌, List, map, ℕ, ◌+◌, ◌*◌, ◌^◌, ◌≤◌, ◌<◌, length, get_or, replicate}
 use Rattle.mem.specs.Slice.{splice}
 use Rattle.mem.specs.Packed.{packed}
-use Rattle.rules.specs.Weld.{noVertex}
-use Rattle.rules.specs.Mesh.{Polygon, polygonAt}
+use Rattle.rules.specs.Weld.{no_vertex}
+use Rattle.rules.specs.Mesh.{Polygon, polygon_at}
 use Rattle.rules.specs.Links.{none}
-use Rattle.rules.specs.Checks.{Lent, vertexStride}
-use Rattle.rules.specs.Exits.{vertexWords, padded, cornerWords}
+use Rattle.rules.specs.Checks.{Lent, vertex_stride}
+use Rattle.rules.specs.Exits.{vertex_words, padded, corner_words}
 use Rattle.laws.specs.Lists.{All}
-use Rattle.records.specs.Layout.{vertexSize, verticesAt, polygonSize, mostCorners, polygonsAt, link_size}
+use Rattle.records.specs.Layout.{vertex_size, vertices_at, polygon_size, most_corners, polygons_at, link_size}
 use Rattle.records.specs.declared.polygon.Poly.{Poly}
-use Rattle.records.specs.Values.{toPoly, polygonOf}
-use Rattle.links.specs.Ready.{linkRecords, linksAt}
+use Rattle.records.specs.Values.{to_poly, polygon_of}
+use Rattle.links.specs.Ready.{link_records, links_at}
 use Rattle.outputs.specs.declared.store.Places.{Places}
 
 -- a polygon of at most nvp corners
@@ -21,47 +21,47 @@ UpTo nvp p = length p.corners ≤ nvp
 
 -- nv vertices of 16-bit numbers stand at vo
 pub record VerticesReady (w : List ℕ) (vo nv : ℕ) (out : List ℕ) : Type 0 where
-  pub stand : vo + nv * vertexSize ≤ length w
-  pub room : nv * vertexStride ≤ length out
-  pub x : (k : ℕ) → (get_or (verticesAt w vo nv) k noVertex).x < 2 ^ 16
-  pub y : (k : ℕ) → (get_or (verticesAt w vo nv) k noVertex).y < 2 ^ 16
-  pub z : (k : ℕ) → (get_or (verticesAt w vo nv) k noVertex).z < 2 ^ 16
+  pub stand : vo + nv * vertex_size ≤ length w
+  pub room : nv * vertex_stride ≤ length out
+  pub x : (k : ℕ) → (get_or (vertices_at w vo nv) k no_vertex).x < 2 ^ 16
+  pub y : (k : ℕ) → (get_or (vertices_at w vo nv) k no_vertex).y < 2 ^ 16
+  pub z : (k : ℕ) → (get_or (vertices_at w vo nv) k no_vertex).z < 2 ^ 16
 
 -- a row of n words for p, whose places without a corner are 65,535, goes to `to`
 pub record RowReady (out : List ℕ) (to : ℕ) (p : Poly) (n : ℕ) : Type 0 where
   pub room : to + n ≤ length out
   pub short : p.n ≤ n
-  pub most : n ≤ mostCorners
-  pub tidy : p ≡ toPoly (polygonOf p)
+  pub most : n ≤ most_corners
+  pub tidy : p ≡ to_poly (polygon_of p)
   pub narrow : (k : ℕ) → get_or p.corners k 0 < 2 ^ 16
 
 -- np polygons stand at o, each of at most nvp corners, and each corner is below 65,535
 pub record CornersReady (w : List ℕ) (o np nvp : ℕ) (out : List ℕ) : Type 0 where
-  pub stand : o + np * polygonSize ≤ length w
+  pub stand : o + np * polygon_size ≤ length w
   pub room : np * nvp ≤ length out
-  pub most : nvp ≤ mostCorners
-  pub short : All (UpTo nvp) (polygonsAt w o np)
-  pub corners : (i k : ℕ) → get_or (polygonAt (polygonsAt w o np) i).corners k 0 < none
+  pub most : nvp ≤ most_corners
+  pub short : All (UpTo nvp) (polygons_at w o np)
+  pub corners : (i k : ℕ) → get_or (polygon_at (polygons_at w o np) i).corners k 0 < none
 
 -- their links stand at lo, with 65,535 behind the last of each
 pub record LinksReady (w : List ℕ) (o np lo nvp : ℕ) (out : List ℕ) : Type 0 where
   pub stand : lo + np * link_size ≤ length w
   pub room : np * nvp ≤ length out
-  pub most : nvp ≤ mostCorners
-  pub short : All (UpTo nvp) (polygonsAt w o np)
-  pub is : w ≡ splice w lo (linkRecords (linksAt w lo (polygonsAt w o np)))
+  pub most : nvp ≤ most_corners
+  pub short : All (UpTo nvp) (polygons_at w o np)
+  pub is : w ≡ splice w lo (link_records (links_at w lo (polygons_at w o np)))
 
 -- np polygons stand at o, each with a region of 16 bits
 pub record RegionsReady (w : List ℕ) (o np : ℕ) (out : List ℕ) : Type 0 where
-  pub stand : o + np * polygonSize ≤ length w
+  pub stand : o + np * polygon_size ≤ length w
   pub room : np ≤ length out
-  pub regions : (i : ℕ) → (polygonAt (polygonsAt w o np) i).region < 2 ^ 16
+  pub regions : (i : ℕ) → (polygon_at (polygons_at w o np) i).region < 2 ^ 16
 
 -- np polygons stand at o, each with an area code of 8 bits
 pub record CodesReady (w : List ℕ) (o np : ℕ) (out : List ℕ) : Type 0 where
-  pub stand : o + np * polygonSize ≤ length w
+  pub stand : o + np * polygon_size ≤ length w
   pub room : np ≤ length out
-  pub codes : (i : ℕ) → (polygonAt (polygonsAt w o np) i).code < 2 ^ 8
+  pub codes : (i : ℕ) → (polygon_at (polygons_at w o np) i).code < 2 ^ 8
 
 -- the lent buffers, in their order
 abbrev pub buffers : List ℕ → List ℕ → List ℕ → List ℕ → List ℕ → List ℕ → List ℕ → Lent
@@ -86,9 +86,9 @@ pub record StoreReady (at : Places) (nvp : ℕ) (b : Lent) : Type 0 where
 
 -- the mesh that stands in b's work buffer went into the six others, which became those of u: what the rules' `filled` says of them
 pub record StoredTo (at : Places) (nvp : ℕ) (b u : Lent) : Type 0 where
-  pub vertices : u.vertices ≡ splice b.vertices 0 (packed vertexWords (verticesAt b.work at.vo at.nv))
-  pub polygons : u.polygons ≡ splice b.polygons 0 (packed (cornerWords nvp) (polygonsAt b.work at.o at.np))
-  pub neighbours : u.neighbours ≡ splice b.neighbours 0 (packed (padded nvp) (linksAt b.work at.lo (polygonsAt b.work at.o at.np)))
-  pub regions : u.regions ≡ splice b.regions 0 (map (λ p. p.region) (polygonsAt b.work at.o at.np))
-  pub codes : u.codes ≡ splice b.codes 0 (map (λ p. p.code) (polygonsAt b.work at.o at.np))
+  pub vertices : u.vertices ≡ splice b.vertices 0 (packed vertex_words (vertices_at b.work at.vo at.nv))
+  pub polygons : u.polygons ≡ splice b.polygons 0 (packed (corner_words nvp) (polygons_at b.work at.o at.np))
+  pub neighbours : u.neighbours ≡ splice b.neighbours 0 (packed (padded nvp) (links_at b.work at.lo (polygons_at b.work at.o at.np)))
+  pub regions : u.regions ≡ splice b.regions 0 (map (λ p. p.region) (polygons_at b.work at.o at.np))
+  pub codes : u.codes ≡ splice b.codes 0 (map (λ p. p.code) (polygons_at b.work at.o at.np))
   pub flags : u.flags ≡ splice b.flags 0 (replicate at.np 0)

@@ -2,10 +2,10 @@
 ghost use Rattle.std.specs.Prelude.{◌≡◌, ◌+◌, ◌≤◌, length};
 ghost use Rattle.mem.specs.Slice.{view, splice};
 ghost use Rattle.mem.specs.Packed.{packed};
-ghost use Rattle.rules.specs.Exits.{padded, cornerWords};
-ghost use Rattle.records.specs.Layout.{polygonsAt};
-ghost use Rattle.records.specs.Values.{polygonOf};
-ghost use Rattle.links.specs.Ready.{linksAt};
+ghost use Rattle.rules.specs.Exits.{padded, corner_words};
+ghost use Rattle.records.specs.Layout.{polygons_at};
+ghost use Rattle.records.specs.Values.{polygon_of};
+ghost use Rattle.links.specs.Ready.{links_at};
 ghost use Rattle.outputs.specs.Ready.{RowReady, CornersReady, LinksReady};
 
 use records::polygon::{LINK_SIZE, Poly, load_at};
@@ -13,7 +13,7 @@ use records::polygon::{LINK_SIZE, Poly, load_at};
 // The corners of p, and 65,535 behind them, n words in all, go to `to`.
 fn put_corners(out: &mut [u16], to: usize, p: Poly, n: usize)
     requires { RowReady out.old to p n }
-    ensures { out.new ≡ splice out.old to (cornerWords n (polygonOf p)) }
+    ensures { out.new ≡ splice out.old to (corner_words n (polygon_of p)) }
 {
     let mut k = 0;
     while k < n {
@@ -25,7 +25,7 @@ fn put_corners(out: &mut [u16], to: usize, p: Poly, n: usize)
 // The corners of the np polygons at o go to the beginning of out.
 pub fn copy_corners(work: &[u32], o: usize, np: usize, nvp: usize, out: &mut [u16])
     requires { CornersReady work.now o np nvp out.old }
-    ensures { out.new ≡ splice out.old 0 (packed (cornerWords nvp) (polygonsAt work.now o np)) }
+    ensures { out.new ≡ splice out.old 0 (packed (corner_words nvp) (polygons_at work.now o np)) }
 {
     let mut i = 0;
     while i < np {
@@ -50,7 +50,7 @@ fn put_links(work: &[u32], at: usize, n: usize, out: &mut [u32], to: usize)
 // The links at lo of the np polygons at o go to the beginning of out.
 pub fn copy_links(work: &[u32], o: usize, np: usize, lo: usize, nvp: usize, out: &mut [u32])
     requires { LinksReady work.now o np lo nvp out.old }
-    ensures { out.new ≡ splice out.old 0 (packed (padded nvp) (linksAt work.now lo (polygonsAt work.now o np))) }
+    ensures { out.new ≡ splice out.old 0 (packed (padded nvp) (links_at work.now lo (polygons_at work.now o np))) }
 {
     let mut i = 0;
     while i < np {

@@ -1,7 +1,7 @@
 // The polygons' regions, area codes and flags go out: one word for each polygon.
 ghost use Rattle.std.specs.Prelude.{◌≡◌, map, ◌≤◌, length, replicate};
 ghost use Rattle.mem.specs.Slice.{splice};
-ghost use Rattle.records.specs.Layout.{polygonsAt};
+ghost use Rattle.records.specs.Layout.{polygons_at};
 ghost use Rattle.outputs.specs.Ready.{RegionsReady, CodesReady};
 
 use records::polygon::POLYGON_SIZE;
@@ -9,7 +9,7 @@ use records::polygon::POLYGON_SIZE;
 // The regions of the np polygons at o go to the beginning of out.
 pub fn copy_regions(work: &[u32], o: usize, np: usize, out: &mut [u16])
     requires { RegionsReady work.now o np out.old }
-    ensures { out.new ≡ splice out.old 0 (map (λ p. p.region) (polygonsAt work.now o np)) }
+    ensures { out.new ≡ splice out.old 0 (map (λ p. p.region) (polygons_at work.now o np)) }
 {
     let mut i = 0;
     while i < np {
@@ -21,7 +21,7 @@ pub fn copy_regions(work: &[u32], o: usize, np: usize, out: &mut [u16])
 // The area codes of the np polygons at o go to the beginning of out.
 pub fn copy_codes(work: &[u32], o: usize, np: usize, out: &mut [u8])
     requires { CodesReady work.now o np out.old }
-    ensures { out.new ≡ splice out.old 0 (map (λ p. p.code) (polygonsAt work.now o np)) }
+    ensures { out.new ≡ splice out.old 0 (map (λ p. p.code) (polygons_at work.now o np)) }
 {
     let mut i = 0;
     while i < np {

@@ -2,8 +2,8 @@
 ghost use Rattle.std.specs.Prelude.{◌≡◌};
 ghost use Rattle.mem.specs.Slice.{splice};
 ghost use Rattle.mem.specs.Packed.{packed};
-ghost use Rattle.rules.specs.Exits.{vertexWords};
-ghost use Rattle.records.specs.Layout.{verticesAt};
+ghost use Rattle.rules.specs.Exits.{vertex_words};
+ghost use Rattle.records.specs.Layout.{vertices_at};
 ghost use Rattle.outputs.specs.Ready.{VerticesReady};
 
 use records::vertex::VERTEX_SIZE;
@@ -12,7 +12,7 @@ use rules::VERTEX_STRIDE;
 // The nv vertices at vo go to the beginning of out.
 pub fn copy_vertices(work: &[u32], vo: usize, nv: usize, out: &mut [u16])
     requires { VerticesReady work.now vo nv out.old }
-    ensures { out.new ≡ splice out.old 0 (packed vertexWords (verticesAt work.now vo nv)) }
+    ensures { out.new ≡ splice out.old 0 (packed vertex_words (vertices_at work.now vo nv)) }
 {
     let mut k = 0;
     while k < nv {

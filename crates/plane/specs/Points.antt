@@ -8,8 +8,8 @@ unfoldable pub point_of : List ℕ → ℕ → Point
 point_of ws k = record { x = slice_index ws (k * 2); z = slice_index ws (k * 2 + 1) }
 
 -- all of them
-unfoldable pub pointsIn : List ℕ → List Point
-pointsIn ws = tab (point_of ws) (length ws / 2)
+unfoldable pub points_in : List ℕ → List Point
+points_in ws = tab (point_of ws) (length ws / 2)
 
 -- words that are coordinates of an accepted job, and not so many that their areas don't add up in 64 bits
 pub record GridWords (ws : List ℕ) : Type 0 where

@@ -2,20 +2,20 @@
 -- Assumes nothing.
 -- Key: `D-within`.
 use Rattle.std.specs.Prelude.{ℕ, ◌*◌, ◌≤◌, pos, ◌-ℤ◌, ◌*ℤ◌}
-use Rattle.ints.specs.Order.{Within, within-gap, within-mul, within-sub}
+use Rattle.ints.specs.Order.{Within, within_gap, within_mul, within_sub}
 use Rattle.rules.specs.Plane.{D, InGrid}
 use Rattle.rules.specs.declared.Point.{Point}
 
 -- the product of two differences
-pub product-size : {a b c d : ℕ} → a ≤ 32767 → b ≤ 32767 → c ≤ 32767 → d ≤ 32767
+pub product_size : {a b c d : ℕ} → a ≤ 32767 → b ≤ 32767 → c ≤ 32767 → d ≤ 32767
     → Within (32767 * 32767) ((pos a -ℤ pos b) *ℤ (pos c -ℤ pos d))
-product-size h k i j = within-mul (within-gap h k) (within-gap i j)
+product_size h k i j = within_mul (within_gap h k) (within_gap i j)
 
 -- the difference of two such products
-pub turn-size : {a b c d e f g h : ℕ} → a ≤ 32767 → b ≤ 32767 → c ≤ 32767 → d ≤ 32767 → e ≤ 32767 → f ≤ 32767 → g ≤ 32767 → h ≤ 32767
+pub turn_size : {a b c d e f g h : ℕ} → a ≤ 32767 → b ≤ 32767 → c ≤ 32767 → d ≤ 32767 → e ≤ 32767 → f ≤ 32767 → g ≤ 32767 → h ≤ 32767
     → Within 2147352578 ((pos a -ℤ pos b) *ℤ (pos c -ℤ pos d) -ℤ (pos e -ℤ pos f) *ℤ (pos g -ℤ pos h))
-turn-size ha hb hc hd he hf hg hh = within-sub (product-size ha hb hc hd) (product-size he hf hg hh)
+turn_size ha hb hc hd he hf hg hh = within_sub (product_size ha hb hc hd) (product_size he hf hg hh)
 
 pub D-within : {a b c : Point} → InGrid a → InGrid b → InGrid c → Within 2147352578 (D a b c)
 unfolding D
-D-within A B C = turn-size B.x-small A.x-small C.z-small A.z-small C.x-small A.x-small B.z-small A.z-small
+D-within A B C = turn_size B.x_small A.x_small C.z_small A.z_small C.x_small A.x_small B.z_small A.z_small

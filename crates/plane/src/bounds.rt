@@ -1,6 +1,6 @@
 // The box of a segment, and the segments that are apart from it.
 ghost use Rattle.std.specs.Prelude.{◌≡◌, ◌&&◌, nat_lt};
-ghost use Rattle.plane.specs.Boxes.{least, most, bounds_of, isBeside, isApart};
+ghost use Rattle.plane.specs.Boxes.{least, most, bounds_of, is_beside, is_apart};
 
 use crate::segment::vequal;
 use rules::Point;
@@ -64,7 +64,7 @@ fn are_above(c: u16, d: u16, m: u16) -> bool
 
 // Whether the segment from c to d lies beyond one side of the box. A chain of tests, since the first ones mostly tell.
 fn is_beside(t: Bounds, c: Point, d: Point) -> bool
-    ensures { result ≡ isBeside t c d }
+    ensures { result ≡ is_beside t c d }
 {
     if are_above(c.x, d.x, t.x1) {
         return true;
@@ -80,7 +80,7 @@ fn is_beside(t: Bounds, c: Point, d: Point) -> bool
 
 // Whether that segment has a length too: then it neither crosses nor touches the one whose box this is.
 pub fn are_apart(t: Bounds, c: Point, d: Point) -> bool
-    ensures { result ≡ isApart t c d }
+    ensures { result ≡ is_apart t c d }
 {
     if is_beside(t, c, d) {
         !vequal(c, d)

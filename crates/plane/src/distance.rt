@@ -1,6 +1,6 @@
 // The squared distance from a point to a segment, in f32, one rounding for each operation, in the order of math.rs.
 ghost use Rattle.std.specs.Prelude.{◌≡◌};
-ghost use Rattle.rules.specs.Distance.{distanceSquared, clamped, scaledDown};
+ghost use Rattle.rules.specs.Distance.{distance_squared, clamped, scaled_down};
 
 use rules::Point;
 
@@ -16,14 +16,14 @@ fn clamp01(t: f32) -> f32
 
 // t divided by d, if d is above 0.
 fn scaled_down(t: f32, d: f32) -> f32
-    ensures { result ≡ scaledDown t d }
+    ensures { result ≡ scaled_down t d }
 {
     if d > 0.0 { t / d } else { t }
 }
 
 // From pt to the segment from p to q.
 pub fn distance_squared(pt: Point, p: Point, q: Point) -> f32
-    ensures { result ≡ distanceSquared pt p q }
+    ensures { result ≡ distance_squared pt p q }
 {
     let ptx = pt.x as f32;
     let ptz = pt.z as f32;

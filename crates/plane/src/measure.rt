@@ -2,7 +2,7 @@
 ghost use Rattle.std.specs.Prelude.{◌≡◌, ◌+◌, ◌*◌, ◌<◌, ◌≤◌, length};
 ghost use Rattle.rules.specs.Lists.{apart};
 ghost use Rattle.rules.specs.Plane.{InGrid, squared, area};
-ghost use Rattle.plane.specs.Points.{point_of, pointsIn, GridWords};
+ghost use Rattle.plane.specs.Points.{point_of, points_in, GridWords};
 
 use crate::turn::area2;
 use rules::Point;
@@ -41,7 +41,7 @@ pub fn point_at(pts: &[u32], k: usize) -> Point
 // The doubled area of the points.
 pub fn doubled_area(pts: &[u32]) -> i64
     requires { GridWords pts.now }
-    ensures { result ≡ area (pointsIn pts.now) }
+    ensures { result ≡ area (points_in pts.now) }
 {
     let n = pts.len() / 2;
     if n < 3 {

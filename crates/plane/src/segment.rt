@@ -1,6 +1,6 @@
 // Two segments, a b and c d: whether they cross, and whether they touch.
 ghost use Rattle.std.specs.Prelude.{◌≡◌};
-ghost use Rattle.rules.specs.Plane.{InGrid, intersectProp, within};
+ghost use Rattle.rules.specs.Plane.{InGrid, intersect_prop, within};
 ghost use Rattle.rules.specs.Plane as Plane;
 
 use crate::turn::{collinear, is_left};
@@ -39,7 +39,7 @@ pub fn between(a: Point, b: Point, c: Point) -> bool
 // Whether the segments cross: no end of one is on the line of the other, and the ends of each are on unlike sides.
 pub fn intersect_prop(a: Point, b: Point, c: Point, d: Point) -> bool
     requires { InGrid a × InGrid b × InGrid c × InGrid d }
-    ensures { result ≡ intersectProp a b c d }
+    ensures { result ≡ intersect_prop a b c d }
 {
     if collinear(a, b, c) {
         return false;

@@ -1,6 +1,6 @@
 // D of three points, and its sign: which side of the line from a to b the point c is on.
 ghost use Rattle.std.specs.Prelude.{◌≡◌};
-ghost use Rattle.rules.specs.Plane.{D, InGrid, isLeft, isLeftOn};
+ghost use Rattle.rules.specs.Plane.{D, InGrid, is_left, is_left_on};
 ghost use Rattle.rules.specs.Plane as Plane;
 
 use rules::Point;
@@ -22,7 +22,7 @@ pub fn area2(a: Point, b: Point, c: Point) -> i32
 // Whether c lies to the left of the line from a to b.
 pub fn is_left(a: Point, b: Point, c: Point) -> bool
     requires { InGrid a × InGrid b × InGrid c }
-    ensures { result ≡ isLeft a b c }
+    ensures { result ≡ is_left a b c }
 {
     area2(a, b, c) < 0
 }
@@ -30,7 +30,7 @@ pub fn is_left(a: Point, b: Point, c: Point) -> bool
 // Whether c lies to the left of that line, or on it.
 pub fn is_left_on(a: Point, b: Point, c: Point) -> bool
     requires { InGrid a × InGrid b × InGrid c }
-    ensures { result ≡ isLeftOn a b c }
+    ensures { result ≡ is_left_on a b c }
 {
     area2(a, b, c) <= 0
 }

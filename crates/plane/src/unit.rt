@@ -1,13 +1,13 @@
 // The cell size: its unit, thousandths, and millimetres.
 ghost use Rattle.std.specs.Prelude.{◌≡◌};
-ghost use Rattle.rules.specs.Units.{sizeIn, millimetres};
+ghost use Rattle.rules.specs.Units.{size_in, millimetres};
 ghost use Rattle.rules.specs.Units as Units;
 
 use rules::CellSize;
 
 // A size with its unit.
 pub fn cell_size(inches: bool, size: f32) -> CellSize
-    ensures { result ≡ sizeIn inches size }
+    ensures { result ≡ size_in inches size }
 {
     if inches {
         return CellSize::Inches(size);

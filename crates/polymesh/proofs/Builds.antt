@@ -1,5 +1,5 @@
 -- A job that has passed the checks is built: what each step asks for, and what the buffers hold at the end. Assumes nothing.
--- Key: `refused-exit` and `built-exit`; `made-built`, once all is wiped.
+-- Key: `refused_exit` and `built_exit`; `made_built`, once all is wiped.
 use mathlib.Core.Path.{◌≡◌, refl, sym, ap, ap₂, subst, ◌∙◌}
 use mathlib.Core.Bool.{false, cond}
 use mathlib.Core.List.{List, ◌++◌}
@@ -7,89 +7,89 @@ use Prim.Native.Nat.{ℕ, ◌+◌, ◌*◌, ◌≤◌}
 use native.Mathlib.Nat.{mul-le-mul_right}
 use native.Mathlib.Omega.{arith}
 use lib.ListN.{length, drop, replicate, length-append, length-drop, length-replicate}
-use Rattle.mem.specs.Slice.{splice-whole}
+use Rattle.mem.specs.Slice.{splice_whole}
 use Rattle.rules.specs.Mesh.{Mesh}
-use Rattle.rules.specs.Removal.{Removal, Removals, removed, stuckAt, removeAll}
-use Rattle.rules.specs.Job.{Job, countV}
-use Rattle.rules.specs.Checks.{Lent, workWords}
-use Rattle.rules.specs.Replies.{writesNothing}
-use Rattle.rules.specs.Build.{Contours, added, noEarIn, Outcome, refused, built, linked, cleared, addAll}
-use Rattle.rules.specs.Exits.{wiped, onlyWiped, exit_of}
+use Rattle.rules.specs.Removal.{Removal, Removals, removed, stuck_at, remove_all}
+use Rattle.rules.specs.Job.{Job, count_v}
+use Rattle.rules.specs.Checks.{Lent, work_words}
+use Rattle.rules.specs.Replies.{writes_nothing}
+use Rattle.rules.specs.Build.{Contours, added, no_ear_in, Outcome, refused, built, linked, cleared, add_all}
+use Rattle.rules.specs.Exits.{wiped, only_wiped, exit_of}
 use Rattle.rules.specs.Widths.{Fits}
 use Rattle.rules.specs.declared.Refusal.{Refusal}
 use Rattle.rules.specs.declared.Refusal.TheVariants.{NoEarInContour, NoEarInHole}
 use Rattle.rules.specs.declared.Reply.{Reply}
 use Rattle.rules.specs.declared.Reply.TheVariants.{Built, Refused}
-use Rattle.laws.specs.Replies.{WasBuilt, was-refused, was-built}
-use Rattle.laws.specs.Lists.{All, all-imp}
-use Rattle.laws.specs.Measures.{sparesIn}
-use Rattle.laws.specs.Merge.{Good, Below, polygons-few}
-use Rattle.records.specs.Layout.{mostCorners}
+use Rattle.laws.specs.Replies.{WasBuilt, was_refused, was_built}
+use Rattle.laws.specs.Lists.{All, all_imp}
+use Rattle.laws.specs.Measures.{spares_in}
+use Rattle.laws.specs.Merge.{Good, Below, polygons_few}
+use Rattle.records.specs.Layout.{most_corners}
 use Rattle.removals.specs.declared.site.Counts.{Counts}
-use Rattle.removals.specs.Site.{meshAt, Stands}
-use Rattle.removals.specs.Removing.{countsOf}
-use Rattle.removals.specs.Standing.{stands-wider}
+use Rattle.removals.specs.Site.{mesh_at, Stands}
+use Rattle.removals.specs.Removing.{counts_of}
+use Rattle.removals.specs.Standing.{stands_wider}
 use Rattle.outputs.specs.declared.store.Places.{Places}
 use Rattle.outputs.specs.Ready.{StoreReady, StoredTo}
-use Rattle.outputs.specs.Stored.{store-ready, stored-filled}
+use Rattle.outputs.specs.Stored.{store_ready, stored_filled}
 use Rattle.outputs.specs.Stored as Outputs
-use Rattle.polymesh.specs.Layout.{words_of, usedOf, siteOf}
-use Rattle.polymesh.specs.Gather.{Meshed, comesTo, MeshedTo}
-use Rattle.polymesh.specs.Linking.{places_of, linksWith, LinkableReady, LinkedTo}
+use Rattle.polymesh.specs.Layout.{words_of, used_of, site_of}
+use Rattle.polymesh.specs.Gather.{Meshed, comes_to, MeshedTo}
+use Rattle.polymesh.specs.Linking.{places_of, links_with, LinkableReady, LinkedTo}
 use Rattle.polymesh.specs.Build.{BuildReady, lending, MadeTo, BuiltTo}
-use Rattle.polymesh.proofs.Gathers.{admitted-sized}
+use Rattle.polymesh.proofs.Gathers.{admitted_sized}
 
 -- ---- a build refuses for want of an ear alone, and its links are those of its mesh
 
-isBuilt : Outcome → Type 0
-isBuilt (refused x) = ⊥
-isBuilt (built m ls log) = Unit
+is_built : Outcome → Type 0
+is_built (refused x) = ⊥
+is_built (built m ls log) = Unit
 
-same-refusal : (x y : Refusal) → refused x ≡ refused y → x ≡ y
-same-refusal x y e = cc
+same_refusal : (x y : Refusal) → refused x ≡ refused y → x ≡ y
+same_refusal x y e = cc
 
-quiet-linked : (j : Job) (r : Removals) (x : Refusal) → linked j r ≡ refused x → writesNothing x ≡ false
-unfolding linked writesNothing isBuilt
-quiet-linked j (stuckAt i) x e = ap writesNothing (sym (same-refusal (NoEarInHole i) x e))
-quiet-linked j (removed m log) x e = absurd (subst isBuilt e tt)
+quiet_linked : (j : Job) (r : Removals) (x : Refusal) → linked j r ≡ refused x → writes_nothing x ≡ false
+unfolding linked writes_nothing is_built
+quiet_linked j (stuck_at i) x e = ap writes_nothing (sym (same_refusal (NoEarInHole i) x e))
+quiet_linked j (removed m log) x e = absurd (subst is_built e tt)
 
-pub quiet : (j : Job) (c : Contours) (x : Refusal) → cleared j c ≡ refused x → writesNothing x ≡ false
-unfolding cleared writesNothing
-quiet j (noEarIn c k) x e = ap writesNothing (sym (same-refusal (NoEarInContour c) x e))
-quiet j (added m) x e = quiet-linked j (removeAll j.nvp m) x e
+pub quiet : (j : Job) (c : Contours) (x : Refusal) → cleared j c ≡ refused x → writes_nothing x ≡ false
+unfolding cleared writes_nothing
+quiet j (no_ear_in c k) x e = ap writes_nothing (sym (same_refusal (NoEarInContour c) x e))
+quiet j (added m) x e = quiet_linked j (remove_all j.nvp m) x e
 
-links-linked : (j : Job) (r : Removals) (m : Mesh) (ls : List (List ℕ)) (log : List Removal) → linked j r ≡ built m ls log
-    → ls ≡ linksWith j.w j.h j.border m
-unfolding linked isBuilt
-links-linked j (stuckAt i) m ls log e = absurd (subst isBuilt (sym e) tt)
-links-linked j (removed o k) m ls log e =
+links_linked : (j : Job) (r : Removals) (m : Mesh) (ls : List (List ℕ)) (log : List Removal) → linked j r ≡ built m ls log
+    → ls ≡ links_with j.w j.h j.border m
+unfolding linked is_built
+links_linked j (stuck_at i) m ls log e = absurd (subst is_built (sym e) tt)
+links_linked j (removed o k) m ls log e =
     let a : o ≡ m = cc in
-    let b : linksWith j.w j.h j.border o ≡ ls = cc in
-    sym b ∙ ap (linksWith j.w j.h j.border) a
+    let b : links_with j.w j.h j.border o ≡ ls = cc in
+    sym b ∙ ap (links_with j.w j.h j.border) a
 
-links-built : (j : Job) (c : Contours) (m : Mesh) (ls : List (List ℕ)) (log : List Removal) → cleared j c ≡ built m ls log
-    → ls ≡ linksWith j.w j.h j.border m
-unfolding cleared isBuilt
-links-built j (noEarIn c k) m ls log e = absurd (subst isBuilt (sym e) tt)
-links-built j (added o) m ls log e = links-linked j (removeAll j.nvp o) m ls log e
+links_built : (j : Job) (c : Contours) (m : Mesh) (ls : List (List ℕ)) (log : List Removal) → cleared j c ≡ built m ls log
+    → ls ≡ links_with j.w j.h j.border m
+unfolding cleared is_built
+links_built j (no_ear_in c k) m ls log e = absurd (subst is_built (sym e) tt)
+links_built j (added o) m ls log e = links_linked j (remove_all j.nvp o) m ls log e
 
 -- ---- the build
 
 -- zeros in a buffer of just the words that are lent
-all-wiped : {v t : ℕ} {j : Job} {b : Lent} → BuildReady (words_of v) v t j b → (k : ℕ) {z : List ℕ} → k ≡ length b.work → z ≡ replicate k 0 → z ≡ wiped j b.work
-unfolding wiped workWords
-all-wiped {v} {t} {j} {b} r k l e =
-    let c : words_of v ≡ 4096 + 128 * countV j = ap words_of r.job.vertices in
-    let a = length-replicate {A = ℕ} (4096 + 128 * countV j) 0 in
-    e ∙ ap (λ (k : ℕ). replicate k 0) (l ∙ r.size ∙ c) ∙ sym (splice-whole b.work (replicate (4096 + 128 * countV j) 0) (a ∙ sym c ∙ sym r.size))
+all_wiped : {v t : ℕ} {j : Job} {b : Lent} → BuildReady (words_of v) v t j b → (k : ℕ) {z : List ℕ} → k ≡ length b.work → z ≡ replicate k 0 → z ≡ wiped j b.work
+unfolding wiped work_words
+all_wiped {v} {t} {j} {b} r k l e =
+    let c : words_of v ≡ 4096 + 128 * count_v j = ap words_of r.job.vertices in
+    let a = length-replicate {A = ℕ} (4096 + 128 * count_v j) 0 in
+    e ∙ ap (λ (k : ℕ). replicate k 0) (l ∙ r.size ∙ c) ∙ sym (splice_whole b.work (replicate (4096 + 128 * count_v j) 0) (a ∙ sym c ∙ sym r.size))
 
 -- the words that are used are among those that are lent
-pub used-fits : {v t : ℕ} {j : Job} {b : Lent} → BuildReady (words_of v) v t j b → {n : ℕ} → n ≡ usedOf v t → n ≤ length b.work
-used-fits r e = omega (arith, e, r.size, (admitted-sized r.job).t-most)
+pub used_fits : {v t : ℕ} {j : Job} {b : Lent} → BuildReady (words_of v) v t j b → {n : ℕ} → n ≡ used_of v t → n ≤ length b.work
+used_fits r e = omega (arith, e, r.size, (admitted_sized r.job).t_most)
 
 -- and enough
-pub make-ready : {v t : ℕ} {j : Job} {b : Lent} → BuildReady (words_of v) v t j b → (part : List ℕ) → length part ≡ usedOf v t → BuildReady (usedOf v t) v t j (lending b part)
-make-ready r part l = record {
+pub make_ready : {v t : ℕ} {j : Job} {b : Lent} → BuildReady (words_of v) v t j b → (part : List ℕ) → length part ≡ used_of v t → BuildReady (used_of v t) v t j (lending b part)
+make_ready r part l = record {
   size = l;
   job = r.job;
   room = record {
@@ -104,34 +104,34 @@ make-ready r part l = record {
 }
 
 -- once all is wiped: ys is what those words became
-pub made-built : {v t : ℕ} {j : Job} {b u : Lent} {reply : Reply} → BuildReady (words_of v) v t j b → (part : List ℕ) → MadeTo j (lending b part) u reply → (ys : List ℕ) (n : ℕ)
+pub made_built : {v t : ℕ} {j : Job} {b u : Lent} {reply : Reply} → BuildReady (words_of v) v t j b → (part : List ℕ) → MadeTo j (lending b part) u reply → (ys : List ℕ) (n : ℕ)
     → length ys ≡ n → n ≤ length b.work → {z : List ℕ} → z ≡ replicate (length (ys ++ drop n b.work)) 0 → BuiltTo j b (lending u z) reply
-made-built {b = b} {u = u} r part m ys n l h e =
+made_built {b = b} {u = u} r part m ys n l h e =
     let k : length (ys ++ drop n b.work) ≡ length b.work = simp (length-append, length-drop) (omega arith) in
-    record { answer = m.answer; exit = ap (lending u) (all-wiped r _ k e) ∙ m.exit b.work }
+    record { answer = m.answer; exit = ap (lending u) (all_wiped r _ k e) ∙ m.exit b.work }
 
-module _ {v t : ℕ} {j : Job} {b : Lent} (r : BuildReady (usedOf v t) v t j b) where
+module _ {v t : ℕ} {j : Job} {b : Lent} (r : BuildReady (used_of v t) v t j b) where
   module _ {u : List ℕ} {reply : Reply} (g : MeshedTo u v t j reply) where
-    pub refused-exit : {x : Refusal} → reply ≡ Refused x → {z : List ℕ} → MadeTo j b (lending b z) (Refused x)
-    unfolding exit_of onlyWiped
-    refused-exit {x} e =
-        let o = was-refused (comesTo j) x (sym e ∙ g.answer) in
+    pub refused_exit : {x : Refusal} → reply ≡ Refused x → {z : List ℕ} → MadeTo j b (lending b z) (Refused x)
+    unfolding exit_of only_wiped
+    refused_exit {x} e =
+        let o = was_refused (comes_to j) x (sym e ∙ g.answer) in
         record {
           answer = sym e ∙ g.answer;
-          exit = λ w. sym (ap (exit_of j (lending b w)) o ∙ ap (λ c. cond c (lending b w) (onlyWiped j (lending b w))) (quiet j (addAll j) x o));
+          exit = λ w. sym (ap (exit_of j (lending b w)) o ∙ ap (λ c. cond c (lending b w) (only_wiped j (lending b w))) (quiet j (add_all j) x o));
         }
 
     module _ {np nv : ℕ} (e : reply ≡ Built np nv) where
       n : Counts
       n = record { vertices = nv; polygons = np }
 
-      w : WasBuilt (comesTo j) np nv
-      w = was-built (comesTo j) np nv (sym e ∙ g.answer)
+      w : WasBuilt (comes_to j) np nv
+      w = was_built (comes_to j) np nv (sym e ∙ g.answer)
 
       m : Mesh
       m = w.mesh
 
-      counts : n ≡ countsOf m
+      counts : n ≡ counts_of m
       unfolding n m
       counts = ap₂ (λ (a c : ℕ). record { vertices = a; polygons = c }) w.vertices w.polygons
 
@@ -146,42 +146,42 @@ module _ {v t : ℕ} {j : Job} {b : Lent} (r : BuildReady (usedOf v t) v t j b) 
       pub linkable : LinkableReady u v t (record { vertices = nv; polygons = np })
       unfolding n m
       linkable = record {
-        sized = admitted-sized r.job;
+        sized = admitted_sized r.job;
         room = omega (arith, g.size);
-        stands = subst (λ (c : Counts). Stands u (siteOf v t) c mostCorners) (sym counts) (stands-wider meshed.stands);
+        stands = subst (λ (c : Counts). Stands u (site_of v t) c most_corners) (sym counts) (stands_wider meshed.stands);
         few = rw w.polygons fit.polygons;
       }
 
       module _ {x : List ℕ} (l : LinkedTo u x v t (record { vertices = nv; polygons = np }) j.w j.h j.border) where
-        here : meshAt u (siteOf v t) n ≡ m
-        here = ap (meshAt u (siteOf v t)) counts ∙ meshed.read
+        here : mesh_at u (site_of v t) n ≡ m
+        here = ap (mesh_at u (site_of v t)) counts ∙ meshed.read
 
         stored : Outputs.Stands (places_of v t n) x m w.links
         unfolding n m
         stored =
-            rw (links-built j (addAll j) w.mesh w.links w.log w.is)
-            (subst (λ (y : Mesh). Outputs.Stands (places_of v t n) x y (linksWith j.w j.h j.border y)) here l.stands)
+            rw (links_built j (add_all j) w.mesh w.links w.log w.is)
+            (subst (λ (y : Mesh). Outputs.Stands (places_of v t n) x y (links_with j.w j.h j.border y)) here l.stands)
 
         sound : All (Good (Below (length m.vertices)) j.nvp) m.polygons
         sound = subst (λ (y : Mesh). All (Good (Below (length y.vertices)) j.nvp) y.polygons) meshed.read meshed.stands.sound.good
 
         few : length m.polygons ≤ t
         few =
-            let s = subst (λ (y : Mesh). sparesIn y.polygons ≤ t) meshed.read meshed.stands.spares in
-            omega (arith, polygons-few (all-imp (λ p (k : Good (Below (length m.vertices)) j.nvp p). k.long) sound), s)
+            let s = subst (λ (y : Mesh). spares_in y.polygons ≤ t) meshed.read meshed.stands.spares in
+            omega (arith, polygons_few (all_imp (λ p (k : Good (Below (length m.vertices)) j.nvp p). k.long) sound), s)
 
-        few-rows : np * j.nvp ≤ t * j.nvp
+        few_rows : np * j.nvp ≤ t * j.nvp
         unfolding m
-        few-rows = mul-le-mul_right j.nvp (rw w.polygons few)
+        few_rows = mul-le-mul_right j.nvp (rw w.polygons few)
 
-        room-now : Outputs.Room (places_of v t n) j.nvp (lending b x)
+        room_now : Outputs.Room (places_of v t n) j.nvp (lending b x)
         unfolding n m
-        room-now =
+        room_now =
             let q : np ≤ t = rw w.polygons few in
             record {
               vertices = omega (arith, w.vertices, meshed.stands.vertices, r.room.vertices);
-              polygons = omega (arith, few-rows, r.room.polygons);
-              neighbours = omega (arith, few-rows, r.room.neighbours);
+              polygons = omega (arith, few_rows, r.room.polygons);
+              neighbours = omega (arith, few_rows, r.room.neighbours);
               regions = omega (arith, q, r.room.regions);
               codes = omega (arith, q, r.room.codes);
               flags = omega (arith, q, r.room.flags);
@@ -190,13 +190,13 @@ module _ {v t : ℕ} {j : Job} {b : Lent} (r : BuildReady (usedOf v t) v t j b) 
         pub storable : {at : Places} → at ≡ places_of v t (record { vertices = nv; polygons = np })
             → StoreReady at j.nvp (lending b x)
         unfolding n
-        storable p = rw p (store-ready stored room-now r.job.passed.nvp-high (all-imp (λ p (k : Good (Below (length m.vertices)) j.nvp p). k.short) sound) fit)
+        storable p = rw p (store_ready stored room_now r.job.passed.nvp_high (all_imp (λ p (k : Good (Below (length m.vertices)) j.nvp p). k.short) sound) fit)
 
-        pub built-exit : {at : Places} → at ≡ places_of v t (record { vertices = nv; polygons = np }) → {a : Lent} → StoredTo at j.nvp (lending b x) a → {z : List ℕ}
+        pub built_exit : {at : Places} → at ≡ places_of v t (record { vertices = nv; polygons = np }) → {a : Lent} → StoredTo at j.nvp (lending b x) a → {z : List ℕ}
             → MadeTo j b (lending a z) (Built np nv)
         unfolding exit_of n m
-        built-exit p k =
+        built_exit p k =
             record {
               answer = sym e ∙ g.answer;
-              exit = λ y. stored-filled stored j (rw p at k) y (wiped j y) refl ∙ sym (ap (exit_of j (lending b y)) w.is);
+              exit = λ y. stored_filled stored j (rw p at k) y (wiped j y) refl ∙ sym (ap (exit_of j (lending b y)) w.is);
             }

@@ -1,34 +1,34 @@
 -- What the contours and the removals come to, case by case. Assumes nothing.
--- Key: `no-ear-in-contour`, `stuck-came`, `left-came`.
+-- Key: `no_ear_in_contour`, `stuck_came`, `left_came`.
 use mathlib.Core.Path.{◌≡◌, refl, sym, ap, ap₂, subst, ◌∙◌}
 use mathlib.Core.List.{List, []}
 use Prim.Native.Nat.{ℕ}
 use native.Mathlib.Omega.{arith}
 use lib.ListN.{length, replicate, length-replicate}
 use Rattle.rules.specs.Mesh.{Mesh}
-use Rattle.rules.specs.Removal.{Removal, removeAll, removed, stuckAt}
+use Rattle.rules.specs.Removal.{Removal, remove_all, removed, stuck_at}
 use Rattle.rules.specs.Removal as Rules
-use Rattle.rules.specs.Job.{Job, countV, count_t}
-use Rattle.rules.specs.Areas.{jobArea}
-use Rattle.rules.specs.Build.{Contours, added, noEarIn, built, linked, cleared, addAll, replyOf}
+use Rattle.rules.specs.Job.{Job, count_v, count_t}
+use Rattle.rules.specs.Areas.{job_area}
+use Rattle.rules.specs.Build.{Contours, added, no_ear_in, built, linked, cleared, add_all, reply_of}
 use Rattle.rules.specs.declared.Refusal.TheVariants.{NoEarInContour, NoEarInHole}
 use Rattle.rules.specs.declared.Reply.TheVariants.{Built, Refused}
 use Rattle.laws.specs.Checks.{T-below-V}
-use Rattle.laws.specs.Build.{Balanced, all-added, removals, no-refusal}
+use Rattle.laws.specs.Build.{Balanced, all_added, removals, no_refusal}
 use Rattle.contours.specs.declared.gather.Gathered.{Gathered}
 use Rattle.contours.specs.declared.gather.Gathered.TheVariants as Gather
 use Rattle.contours.specs.declared.ground.Ground.{Ground}
-use Rattle.contours.specs.Ground.{groundIn}
-use Rattle.contours.specs.Gathering.{GatherReady, gatheredOf, meshOf}
+use Rattle.contours.specs.Ground.{ground_in}
+use Rattle.contours.specs.Gathering.{GatherReady, gathered_of, mesh_of}
 use Rattle.removals.specs.declared.site.Counts.{Counts}
 use Rattle.removals.specs.declared.all.Removals.{Removals}
 use Rattle.removals.specs.declared.all.Removals.TheVariants as Tried
-use Rattle.removals.specs.Site.{meshAt, meshIn, Stands}
-use Rattle.removals.specs.Removing.{countsOf, triedTo, meshLeft}
-use Rattle.removals.specs.Standing.{Suits, length-in, mesh-read, stands_of}
-use Rattle.polymesh.specs.Layout.{Sized, usedOf, groundOf, siteOf}
-use Rattle.polymesh.specs.Gather.{Admitted, Ready, Meshed, comesTo, MeshedTo}
-use Rattle.polymesh.proofs.Grounds.{ground-size, ground-stands, ground-read}
+use Rattle.removals.specs.Site.{mesh_at, mesh_in, Stands}
+use Rattle.removals.specs.Removing.{counts_of, tried_to, mesh_left}
+use Rattle.removals.specs.Standing.{Suits, length_in, mesh_read, stands_of}
+use Rattle.polymesh.specs.Layout.{Sized, used_of, ground_of, site_of}
+use Rattle.polymesh.specs.Gather.{Admitted, Ready, Meshed, comes_to, MeshedTo}
+use Rattle.polymesh.proofs.Grounds.{ground_size, ground_stands, ground_read}
 
 -- ---- the contours' answer
 
@@ -43,21 +43,21 @@ record WasMesh (x : Contours) (nv np : ℕ) : Type 0 where
   vertices : nv ≡ length mesh.vertices
   polygons : np ≡ length mesh.polygons
 
-was-mesh : (x : Contours) (nv np : ℕ) → Gather.Mesh nv np ≡ gatheredOf x → WasMesh x nv np
-unfolding gatheredOf IsMesh
-was-mesh (added m) nv np e = record { mesh = m; is = refl; vertices = cc; polygons = cc }
-was-mesh (noEarIn c k) nv np e = absurd (subst IsMesh e tt)
+was_mesh : (x : Contours) (nv np : ℕ) → Gather.Mesh nv np ≡ gathered_of x → WasMesh x nv np
+unfolding gathered_of IsMesh
+was_mesh (added m) nv np e = record { mesh = m; is = refl; vertices = cc; polygons = cc }
+was_mesh (no_ear_in c k) nv np e = absurd (subst IsMesh e tt)
 
-pub was-no-ear : (x : Contours) (c k : ℕ) → Gather.NoEar c k ≡ gatheredOf x → x ≡ noEarIn c k
-unfolding gatheredOf IsMesh
-was-no-ear (added m) c k e = absurd (subst IsMesh (sym e) tt)
-was-no-ear (noEarIn d i) c k e = cc
+pub was_no_ear : (x : Contours) (c k : ℕ) → Gather.NoEar c k ≡ gathered_of x → x ≡ no_ear_in c k
+unfolding gathered_of IsMesh
+was_no_ear (added m) c k e = absurd (subst IsMesh (sym e) tt)
+was_no_ear (no_ear_in d i) c k e = cc
 
 pub record Came (u : List ℕ) (v t : ℕ) (x : Contours) (n : Counts) : Type 0 where
   pub mesh : Mesh
   pub is : x ≡ added mesh
-  pub words : u ≡ groundIn (usedOf v t) (groundOf v t) mesh
-  pub counts : n ≡ countsOf mesh
+  pub words : u ≡ ground_in (used_of v t) (ground_of v t) mesh
+  pub counts : n ≡ counts_of mesh
 
 -- ---- the removals' answer
 
@@ -69,41 +69,41 @@ record WasLeft (x : Rules.Removals) (n : Counts) : Type 0 where
   mesh : Mesh
   log : List Removal
   is : x ≡ removed mesh log
-  counts : n ≡ countsOf mesh
+  counts : n ≡ counts_of mesh
 
-was-left : (x : Rules.Removals) (n : Counts) → Tried.Left n ≡ triedTo x → WasLeft x n
-unfolding triedTo IsLeft
-was-left (removed m log) n e = record { mesh = m; log = log; is = refl; counts = cc }
-was-left (stuckAt i) n e = absurd (subst IsLeft e tt)
+was_left : (x : Rules.Removals) (n : Counts) → Tried.Left n ≡ tried_to x → WasLeft x n
+unfolding tried_to IsLeft
+was_left (removed m log) n e = record { mesh = m; log = log; is = refl; counts = cc }
+was_left (stuck_at i) n e = absurd (subst IsLeft e tt)
 
-was-stuck : (x : Rules.Removals) (i : ℕ) → Tried.Stuck i ≡ triedTo x → x ≡ stuckAt i
-unfolding triedTo IsLeft
-was-stuck (removed m log) i e = absurd (subst IsLeft (sym e) tt)
-was-stuck (stuckAt k) i e = cc
+was_stuck : (x : Rules.Removals) (i : ℕ) → Tried.Stuck i ≡ tried_to x → x ≡ stuck_at i
+unfolding tried_to IsLeft
+was_stuck (removed m log) i e = absurd (subst IsLeft (sym e) tt)
+was_stuck (stuck_at k) i e = cc
 
 -- ---- what a job comes to
 
-pub admitted-sized : {v t : ℕ} {j : Job} → Admitted v t j → Sized v t
-admitted-sized {j = j} a = record { v-most = omega (arith, a.vertices, a.passed.few); t-most = omega (arith, a.vertices, a.triangles, T-below-V j) }
+pub admitted_sized : {v t : ℕ} {j : Job} → Admitted v t j → Sized v t
+admitted_sized {j = j} a = record { v_most = omega (arith, a.vertices, a.passed.few); t_most = omega (arith, a.vertices, a.triangles, T-below-V j) }
 
 module _ {u₀ : List ℕ} {v t : ℕ} {j : Job} (r : Ready u₀ v t j) where
-  ready-sized : Sized v t
-  ready-sized = admitted-sized r.job
+  ready_sized : Sized v t
+  ready_sized = admitted_sized r.job
 
-  suits : {m : Mesh} {log : List Removal} → Balanced j.nvp (jobArea j) (count_t j) (countV j) m log → Suits (siteOf v t) j.nvp m
+  suits : {m : Mesh} {log : List Removal} → Balanced j.nvp (job_area j) (count_t j) (count_v j) m log → Suits (site_of v t) j.nvp m
   suits b = record {
     sound = b.sound;
-    least = r.job.passed.nvp-low;
-    most = r.job.passed.nvp-high;
+    least = r.job.passed.nvp_low;
+    most = r.job.passed.nvp_high;
     vertices = omega (arith, b.vertices, r.job.vertices);
     spares = omega (arith, b.spares, r.job.triangles);
-    v-few = omega (arith, ready-sized.v-most);
-    t-few = omega (arith, ready-sized.v-most, ready-sized.t-most);
+    v_few = omega (arith, ready-sized.v_most);
+    t_few = omega (arith, ready-sized.v_most, ready-sized.t_most);
   }
 
   -- the buffer is blank
-  pub gather-ready : {u : List ℕ} → u ≡ replicate (length u₀) 0 → GatherReady u (groundOf v t) j
-  gather-ready {u} b =
+  pub gather_ready : {u : List ℕ} → u ≡ replicate (length u₀) 0 → GatherReady u (ground_of v t) j
+  gather_ready {u} b =
       let l : length u ≡ length u₀ = ap length b ∙ length-replicate {A = ℕ} (length u₀) 0 in
       record {
         blank = b ∙ ap (λ (k : ℕ). replicate k 0) (sym l);
@@ -112,7 +112,7 @@ module _ {u₀ : List ℕ} {v t : ℕ} {j : Job} (r : Ready u₀ v t j) where
           vertices = omega arith;
           nexts = omega arith;
           polygons = omega arith;
-          scratch = omega (arith, l, r.size, ready-sized.t-most);
+          scratch = omega (arith, l, r.size, ready-sized.t_most);
         };
         ls = r.job.ls;
         passed = r.job.passed;
@@ -121,103 +121,103 @@ module _ {u₀ : List ℕ} {v t : ℕ} {j : Job} (r : Ready u₀ v t j) where
       }
 
   -- the mesh m, of nv vertices and np polygons, came of the contours and stands in u₁
-  module _ {size : ℕ} {u₁ : List ℕ} {g : Ground} (l : size ≡ length u₀) (p : g ≡ groundOf v t) (d : u₁ ≡ groundIn size g (meshOf (addAll j))) where
-    pub came : {nv np : ℕ} → Gather.Mesh nv np ≡ gatheredOf (addAll j) → Came u₁ v t (addAll j) (record { vertices = nv; polygons = np })
-    unfolding meshOf
+  module _ {size : ℕ} {u₁ : List ℕ} {g : Ground} (l : size ≡ length u₀) (p : g ≡ ground_of v t) (d : u₁ ≡ ground_in size g (mesh_of (add_all j))) where
+    pub came : {nv np : ℕ} → Gather.Mesh nv np ≡ gathered_of (add_all j) → Came u₁ v t (add_all j) (record { vertices = nv; polygons = np })
+    unfolding mesh_of
     came {nv} {np} a =
-        let x = was-mesh (addAll j) nv np a in
+        let x = was_mesh (add_all j) nv np a in
         record {
           mesh = x.mesh;
           is = x.is;
-          words = d ∙ ap (λ (y : Contours). groundIn size g (meshOf y)) x.is ∙ ap (λ (y : Ground). groundIn size y x.mesh) p
-              ∙ ap (λ (k : ℕ). groundIn k (groundOf v t) x.mesh) (l ∙ r.size);
+          words = d ∙ ap (λ (y : Contours). ground_in size g (mesh_of y)) x.is ∙ ap (λ (y : Ground). ground_in size y x.mesh) p
+              ∙ ap (λ (k : ℕ). ground_in k (ground_of v t) x.mesh) (l ∙ r.size);
           counts = ap₂ (λ (a b : ℕ). record { vertices = a; polygons = b }) x.vertices x.polygons;
         }
 
   -- a contour has no ear
-  pub no-ear-in-contour : {c k : ℕ} {u : List ℕ} → addAll j ≡ noEarIn c k → length u ≡ usedOf v t → MeshedTo u v t j (Refused (NoEarInContour c))
-  unfolding cleared replyOf
-  no-ear-in-contour {c} e l = record {
+  pub no_ear_in_contour : {c k : ℕ} {u : List ℕ} → add_all j ≡ no_ear_in c k → length u ≡ used_of v t → MeshedTo u v t j (Refused (NoEarInContour c))
+  unfolding cleared reply_of
+  no_ear_in_contour {c} e l = record {
     answer = rw e;
     size = l;
-    mesh = λ m ls log d. absurd (no-refusal j m ls log (NoEarInContour c) (sym (ap (cleared j) e) ∙ d));
+    mesh = λ m ls log d. absurd (no_refusal j m ls log (NoEarInContour c) (sym (ap (cleared j) e) ∙ d));
   }
 
   -- the contours became a mesh
-  module _ {m : Mesh} (e : addAll j ≡ added m) {u₁ : List ℕ} (d : u₁ ≡ groundIn (usedOf v t) (groundOf v t) m) where
-    balanced : Balanced j.nvp (jobArea j) (count_t j) (countV j) m []
-    balanced = all-added j r.job.ls m r.job.passed e
+  module _ {m : Mesh} (e : add_all j ≡ added m) {u₁ : List ℕ} (d : u₁ ≡ ground_in (used_of v t) (ground_of v t) m) where
+    balanced : Balanced j.nvp (job_area j) (count_t j) (count_v j) m []
+    balanced = all_added j r.job.ls m r.job.passed e
 
-    try-ready : {n : Counts} → n ≡ countsOf m → Stands u₁ (siteOf v t) n j.nvp
-    try-ready q = rw q (ground-stands ready-sized (suits balanced) d)
+    try_ready : {n : Counts} → n ≡ counts_of m → Stands u₁ (site_of v t) n j.nvp
+    try_ready q = rw q (ground_stands ready_sized (suits balanced) d)
 
-    try-read : {n : Counts} → n ≡ countsOf m → meshAt u₁ (siteOf v t) n ≡ m
-    try-read q = ap (meshAt u₁ (siteOf v t)) q ∙ ground-read ready-sized (suits balanced) d
+    try_read : {n : Counts} → n ≡ counts_of m → mesh_at u₁ (site_of v t) n ≡ m
+    try_read q = ap (mesh_at u₁ (site_of v t)) q ∙ ground_read ready_sized (suits balanced) d
 
-    long : length u₁ ≡ usedOf v t
-    long = ground-size ready-sized (suits balanced) d
+    long : length u₁ ≡ used_of v t
+    long = ground_size ready_sized (suits balanced) d
 
-    module _ {n : Counts} (q : n ≡ countsOf m) {u₂ : List ℕ} (f : u₂ ≡ meshIn u₁ (siteOf v t) (meshLeft (removeAll j.nvp (meshAt u₁ (siteOf v t) n)))) where
-      long-now : length u₂ ≡ usedOf v t
-      long-now = ap length f ∙ length-in u₁ (siteOf v t) (meshLeft (removeAll j.nvp (meshAt u₁ (siteOf v t) n))) ∙ long
+    module _ {n : Counts} (q : n ≡ counts_of m) {u₂ : List ℕ} (f : u₂ ≡ mesh_in u₁ (site_of v t) (mesh_left (remove_all j.nvp (mesh_at u₁ (site_of v t) n)))) where
+      long_now : length u₂ ≡ used_of v t
+      long_now = ap length f ∙ length_in u₁ (site_of v t) (mesh_left (remove_all j.nvp (mesh_at u₁ (site_of v t) n))) ∙ long
 
       -- what it comes to, where x is what the removals come to
-      comes : (x : Rules.Removals) → removeAll j.nvp m ≡ x → comesTo j ≡ linked j x
+      comes : (x : Rules.Removals) → remove_all j.nvp m ≡ x → comes_to j ≡ linked j x
       unfolding cleared
       comes x y = ap (cleared j) e ∙ ap (linked j) y
 
       -- a hole has no ear
-      no-ear-in-hole : {i : ℕ} → Tried.Stuck i ≡ triedTo (removeAll j.nvp (meshAt u₁ (siteOf v t) n)) → MeshedTo u₂ v t j (Refused (NoEarInHole i))
-      unfolding linked replyOf
-      no-ear-in-hole {i} a =
-          let y = comes (stuckAt i) (was-stuck (removeAll j.nvp m) i (rw (try-read q) at a)) in
-          record { answer = sym (ap replyOf y); size = long-now; mesh = λ o ls log d. absurd (no-refusal j o ls log (NoEarInHole i) (sym y ∙ d)) }
+      no_ear_in_hole : {i : ℕ} → Tried.Stuck i ≡ tried_to (remove_all j.nvp (mesh_at u₁ (site_of v t) n)) → MeshedTo u₂ v t j (Refused (NoEarInHole i))
+      unfolding linked reply_of
+      no_ear_in_hole {i} a =
+          let y = comes (stuck_at i) (was_stuck (remove_all j.nvp m) i (rw (try_read q) at a)) in
+          record { answer = sym (ap reply_of y); size = long_now; mesh = λ o ls log d. absurd (no_refusal j o ls log (NoEarInHole i) (sym y ∙ d)) }
 
       -- all are tried
-      module _ {p : Counts} (a : Tried.Left p ≡ triedTo (removeAll j.nvp (meshAt u₁ (siteOf v t) n))) where
-        left : WasLeft (removeAll j.nvp m) p
-        left = was-left (removeAll j.nvp m) p (rw (try-read q) at a)
+      module _ {p : Counts} (a : Tried.Left p ≡ tried_to (remove_all j.nvp (mesh_at u₁ (site_of v t) n))) where
+        left : WasLeft (remove_all j.nvp m) p
+        left = was_left (remove_all j.nvp m) p (rw (try_read q) at a)
 
         o : Mesh
         o = left.mesh
 
-        left-balanced : Balanced j.nvp (jobArea j) (count_t j) (countV j) o left.log
-        unfolding removeAll o
-        left-balanced =
-            removals (length m.vertices) j.nvp 0 (jobArea j) (count_t j) (countV j) m [] left.mesh left.log r.job.passed.nvp-low
-            (omega (arith, r.job.vertices, r.job.triangles, ready-sized.v-most, ready-sized.t-most)) (omega arith) balanced left.is
+        left_balanced : Balanced j.nvp (job_area j) (count_t j) (count_v j) o left.log
+        unfolding remove_all o
+        left_balanced =
+            removals (length m.vertices) j.nvp 0 (job_area j) (count_t j) (count_v j) m [] left.mesh left.log r.job.passed.nvp_low
+            (omega (arith, r.job.vertices, r.job.triangles, ready-sized.v_most, ready-sized.t_most)) (omega arith) balanced left.is
 
-        left_in : u₂ ≡ meshIn u₁ (siteOf v t) o
-        unfolding meshLeft o
-        left_in = f ∙ ap (λ (x : Rules.Removals). meshIn u₁ (siteOf v t) (meshLeft x)) (ap (removeAll j.nvp) (try-read q) ∙ left.is)
+        left_in : u₂ ≡ mesh_in u₁ (site_of v t) o
+        unfolding mesh_left o
+        left_in = f ∙ ap (λ (x : Rules.Removals). mesh_in u₁ (site_of v t) (mesh_left x)) (ap (remove_all j.nvp) (try_read q) ∙ left.is)
 
-        left-meshed : Meshed u₂ v t j.nvp o
-        left-meshed = record {
-          stands = stands_of (suits left-balanced) (try-ready q).fits left_in;
-          read = mesh-read (suits left-balanced) (try-ready q).fits left_in;
+        left_meshed : Meshed u₂ v t j.nvp o
+        left_meshed = record {
+          stands = stands_of (suits left_balanced) (try_ready q).fits left_in;
+          read = mesh_read (suits left_balanced) (try_ready q).fits left_in;
         }
 
-        same-mesh : (x : Mesh) (ls ks : List (List ℕ)) (log : List Removal) → built o ls left.log ≡ built x ks log → o ≡ x
-        same-mesh x ls ks log d = cc
+        same_mesh : (x : Mesh) (ls ks : List (List ℕ)) (log : List Removal) → built o ls left.log ≡ built x ks log → o ≡ x
+        same_mesh x ls ks log d = cc
 
-        all-tried : MeshedTo u₂ v t j (Built p.polygons p.vertices)
-        unfolding linked replyOf o
-        all-tried =
+        all_tried : MeshedTo u₂ v t j (Built p.polygons p.vertices)
+        unfolding linked reply_of o
+        all_tried =
             let y = comes (removed left.mesh left.log) left.is in
             record {
-              answer = ap (λ (c : Counts). Built c.polygons c.vertices) left.counts ∙ sym (ap replyOf y);
-              size = long-now;
-              mesh = λ x ks log d. subst (Meshed u₂ v t j.nvp) (same-mesh x _ ks log (sym y ∙ d)) left-meshed;
+              answer = ap (λ (c : Counts). Built c.polygons c.vertices) left.counts ∙ sym (ap reply_of y);
+              size = long_now;
+              mesh = λ x ks log d. subst (Meshed u₂ v t j.nvp) (same_mesh x _ ks log (sym y ∙ d)) left_meshed;
             }
 
   -- the same, of a mesh that came of the contours: x says which
-  module _ {z : Contours} (y : addAll j ≡ z) {u₁ : List ℕ} {n : Counts} (x : Came u₁ v t z n) where
-    pub try-came : Stands u₁ (siteOf v t) n j.nvp
-    try-came = try-ready (y ∙ x.is) x.words x.counts
+  module _ {z : Contours} (y : add_all j ≡ z) {u₁ : List ℕ} {n : Counts} (x : Came u₁ v t z n) where
+    pub try_came : Stands u₁ (site_of v t) n j.nvp
+    try_came = try_ready (y ∙ x.is) x.words x.counts
 
-    module _ {u₂ : List ℕ} (f : u₂ ≡ meshIn u₁ (siteOf v t) (meshLeft (removeAll j.nvp (meshAt u₁ (siteOf v t) n)))) where
-      pub stuck-came : {i : ℕ} → Tried.Stuck i ≡ triedTo (removeAll j.nvp (meshAt u₁ (siteOf v t) n)) → MeshedTo u₂ v t j (Refused (NoEarInHole i))
-      stuck-came a = no-ear-in-hole (y ∙ x.is) x.words x.counts f a
+    module _ {u₂ : List ℕ} (f : u₂ ≡ mesh_in u₁ (site_of v t) (mesh_left (remove_all j.nvp (mesh_at u₁ (site_of v t) n)))) where
+      pub stuck_came : {i : ℕ} → Tried.Stuck i ≡ tried_to (remove_all j.nvp (mesh_at u₁ (site_of v t) n)) → MeshedTo u₂ v t j (Refused (NoEarInHole i))
+      stuck_came a = no_ear_in_hole (y ∙ x.is) x.words x.counts f a
 
-      pub left-came : {p : Counts} → Tried.Left p ≡ triedTo (removeAll j.nvp (meshAt u₁ (siteOf v t) n)) → MeshedTo u₂ v t j (Built p.polygons p.vertices)
-      left-came a = all-tried (y ∙ x.is) x.words x.counts f a
+      pub left_came : {p : Counts} → Tried.Left p ≡ tried_to (remove_all j.nvp (mesh_at u₁ (site_of v t) n)) → MeshedTo u₂ v t j (Built p.polygons p.vertices)
+      left_came a = all_tried (y ∙ x.is) x.words x.counts f a

@@ -1,140 +1,140 @@
 -- The mesh that the removals left is linked in place: what each of the two steps asks for holds, because polygons have no more than three corners a triangle,
 -- and what both leave is the rules' links. Assumes nothing.
--- Key: `link-ready`, `mark-ready`: what the steps ask for; `linked`: what they come to.
+-- Key: `link_ready`, `mark_ready`: what the steps ask for; `linked`: what they come to.
 use mathlib.Core.Path.{◌≡◌, sym, ap, ◌∙◌}
 use mathlib.Core.List.{List}
 use Prim.Native.Nat.{ℕ, ◌+◌, ◌*◌, ◌≤◌}
 use native.Mathlib.Omega.{arith}
 use lib.ListN.{length}
-use Rattle.mem.specs.Slice.{splice, splice-over, length-splice}
-use Rattle.mem.specs.Packed.{every-at}
-use Rattle.mem.specs.Tab.{blocks-after}
-use Rattle.rules.specs.Plane.{InGrid, onPlane}
-use Rattle.rules.specs.Weld.{noVertex}
+use Rattle.mem.specs.Slice.{splice, splice_over, length_splice}
+use Rattle.mem.specs.Packed.{every_at}
+use Rattle.mem.specs.Tab.{blocks_after}
+use Rattle.rules.specs.Plane.{InGrid, on_plane}
+use Rattle.rules.specs.Weld.{no_vertex}
 use Rattle.rules.specs.Mesh.{place_of}
-use Rattle.rules.specs.Links.{edgesOf, linksOf}
-use Rattle.laws.specs.Lists.{All, all-imp, every-of-all}
-use Rattle.laws.specs.Links.{links-shaped, portals-shaped}
-use Rattle.laws.specs.Merge.{Good, Below, Long, polygons-few}
-use Rattle.records.specs.Layout.{vertexSize, vertexIn, verticesAt, Placed, polygonSize, mostCorners, polygonIn, polygonsAt, Small, link_size}
-use Rattle.records.specs.Vertices.{length-vertices}
-use Rattle.records.specs.Polygons.{length-polygons}
+use Rattle.rules.specs.Links.{edges_of, links_of}
+use Rattle.laws.specs.Lists.{All, all_imp, every_of_all}
+use Rattle.laws.specs.Links.{links_shaped, portals_shaped}
+use Rattle.laws.specs.Merge.{Good, Below, Long, polygons_few}
+use Rattle.records.specs.Layout.{vertex_size, vertex_in, vertices_at, Placed, polygon_size, most_corners, polygon_in, polygons_at, Small, link_size}
+use Rattle.records.specs.Vertices.{length_vertices}
+use Rattle.records.specs.Polygons.{length_polygons}
 use Rattle.links.specs.Tables.{edged}
-use Rattle.links.specs.Ready.{cornersIn, LinkReady, linkRecords, linksAt, PortalReady, portalsAt}
-use Rattle.links.specs.Counts.{corners-spares}
-use Rattle.links.specs.Linked.{length-links, linked-size, linked-polygons, linked-links, linked-vertices, linked-ready, marked-links}
+use Rattle.links.specs.Ready.{corners_in, LinkReady, link_records, links_at, PortalReady, portals_at}
+use Rattle.links.specs.Counts.{corners_spares}
+use Rattle.links.specs.Linked.{length_links, linked_size, linked_polygons, linked_links, linked_vertices, linked_ready, marked_links}
 use Rattle.removals.specs.declared.site.Counts.{Counts}
-use Rattle.removals.specs.Site.{meshAt}
-use Rattle.polymesh.specs.Layout.{polygonsOf, siteOf, edgeTablesOf, linkPlaceOf}
-use Rattle.polymesh.specs.Linking.{linksWith, LinkableReady, LinkedTo}
+use Rattle.removals.specs.Site.{mesh_at}
+use Rattle.polymesh.specs.Layout.{polygons_of, site_of, edge_tables_of, link_place_of}
+use Rattle.polymesh.specs.Linking.{links_with, LinkableReady, LinkedTo}
 
 module _ {u : List ℕ} {v t : ℕ} {n : Counts} (r : LinkableReady u v t n) where
-  long : All Long (polygonsAt u (polygonsOf v) n.polygons)
-  long = all-imp (λ p (g : Good (Below (length (verticesAt u 4096 n.vertices))) mostCorners p). g.long) r.stands.sound.good
+  long : All Long (polygons_at u (polygons_of v) n.polygons)
+  long = all_imp (λ p (g : Good (Below (length (vertices_at u 4096 n.vertices))) most_corners p). g.long) r.stands.sound.good
 
   few : n.polygons ≤ t
-  few = omega (arith, polygons-few long, r.stands.spares, length-polygons u (polygonsOf v) n.polygons)
+  few = omega (arith, polygons_few long, r.stands.spares, length_polygons u (polygons_of v) n.polygons)
 
   -- at most three corners a triangle
-  corners : cornersIn (polygonsAt u (polygonsOf v) n.polygons) ≤ 3 * t
-  corners = omega (arith, polygons-few long, corners-spares long, r.stands.spares)
+  corners : corners_in (polygons_at u (polygons_of v) n.polygons) ≤ 3 * t
+  corners = omega (arith, polygons_few long, corners_spares long, r.stands.spares)
 
-  small : All Small (polygonsAt u (polygonsOf v) n.polygons)
-  small = all-imp (λ p (g : Good (Below (length (verticesAt u 4096 n.vertices))) mostCorners p). g.short) r.stands.sound.good
+  small : All Small (polygons_at u (polygons_of v) n.polygons)
+  small = all_imp (λ p (g : Good (Below (length (vertices_at u 4096 n.vertices))) most_corners p). g.short) r.stands.sound.good
 
-  inside : All (λ p. All (Below n.vertices) p.corners) (polygonsAt u (polygonsOf v) n.polygons)
+  inside : All (λ p. All (Below n.vertices) p.corners) (polygons_at u (polygons_of v) n.polygons)
   inside =
-      let q = length-vertices u 4096 n.vertices in
-      all-imp (λ p (g : Good (Below n.vertices) mostCorners p). g.inside) (rw q at r.stands.sound.good)
+      let q = length_vertices u 4096 n.vertices in
+      all_imp (λ p (g : Good (Below n.vertices) most_corners p). g.inside) (rw q at r.stands.sound.good)
 
-  pub link-ready : LinkReady u (polygonsOf v) n.polygons n.vertices (edgeTablesOf v t) (linkPlaceOf v t)
-  link-ready = record {
+  pub link_ready : LinkReady u (polygons_of v) n.polygons n.vertices (edge_tables_of v t) (link_place_of v t)
+  link_ready = record {
     sides = record { fits = omega (arith, few); small = small; inside = inside; few = r.few };
     room = record {
       firsts = omega (arith, r.stands.vertices);
       edges = omega (arith, corners);
-      nexts = omega (arith, corners, r.room, r.sized.t-most);
-      few = omega (arith, corners, r.sized.v-most, r.sized.t-most);
+      nexts = omega (arith, corners, r.room, r.sized.t_most);
+      few = omega (arith, corners, r.sized.v_most, r.sized.t_most);
     };
     behind = omega (arith, corners);
-    links = omega (arith, few, r.room, r.sized.t-most);
+    links = omega (arith, few, r.room, r.sized.t_most);
   }
 
   placed : Placed u 4096 n.vertices
   unfolding place_of
   placed = record {
     fits = omega (arith, r.stands.vertices, r.room);
-    grid = every-at (λ z. InGrid (onPlane z)) noVertex (verticesAt u 4096 n.vertices)
-        (every-of-all (λ z. InGrid (onPlane z)) noVertex (record { x-small = omega arith; z-small = omega arith }) r.stands.sound.grid);
+    grid = every_at (λ z. InGrid (on_plane z)) no_vertex (vertices_at u 4096 n.vertices)
+        (every_of_all (λ z. InGrid (on_plane z)) no_vertex (record { x_small = omega arith; z_small = omega arith }) r.stands.sound.grid);
   }
 
-  vertices-end : 4096 + n.vertices * vertexSize ≤ polygonsOf v
-  vertices-end = omega (arith, r.stands.vertices)
+  vertices_end : 4096 + n.vertices * vertex_size ≤ polygons_of v
+  vertices_end = omega (arith, r.stands.vertices)
 
-  polygons-end : polygonsOf v + n.polygons * polygonSize ≤ linkPlaceOf v t
-  polygons-end = omega (arith, few)
+  polygons_end : polygons_of v + n.polygons * polygon_size ≤ link_place_of v t
+  polygons_end = omega (arith, few)
 
-  links_end : linkPlaceOf v t + n.polygons * link_size ≤ length u
+  links_end : link_place_of v t + n.polygons * link_size ≤ length u
   links_end = link-ready.links
 
   -- y are the words after R6
   module _ {y : List ℕ}
       (e : y
-      ≡ splice (edged u (edgeTablesOf v t) n.vertices (edgesOf (polygonsAt u (polygonsOf v) n.polygons))) (linkPlaceOf v t)
-      (linkRecords (linksOf (polygonsAt u (polygonsOf v) n.polygons)))) where
-    pub mark-ready : PortalReady y 4096 n.vertices (polygonsOf v) n.polygons (linkPlaceOf v t)
-    mark-ready = linked-ready link-ready e 4096 placed vertices-end
+      ≡ splice (edged u (edge_tables_of v t) n.vertices (edges_of (polygons_at u (polygons_of v) n.polygons))) (link_place_of v t)
+      (link_records (links_of (polygons_at u (polygons_of v) n.polygons)))) where
+    pub mark_ready : PortalReady y 4096 n.vertices (polygons_of v) n.polygons (link_place_of v t)
+    mark_ready = linked_ready link_ready e 4096 placed vertices_end
 
-    same-vertices : verticesAt y 4096 n.vertices ≡ verticesAt u 4096 n.vertices
-    same-vertices = linked-vertices link-ready e 4096 placed vertices-end
+    same_vertices : vertices_at y 4096 n.vertices ≡ vertices_at u 4096 n.vertices
+    same_vertices = linked_vertices link_ready e 4096 placed vertices_end
 
-    same-polygons : polygonsAt y (polygonsOf v) n.polygons ≡ polygonsAt u (polygonsOf v) n.polygons
-    same-polygons = linked-polygons link-ready e
+    same_polygons : polygons_at y (polygons_of v) n.polygons ≡ polygons_at u (polygons_of v) n.polygons
+    same_polygons = linked_polygons link_ready e
 
     -- x are those after R7
     module _ (w h border : ℕ) {x : List ℕ}
-        (d : x ≡ splice y (linkPlaceOf v t) (linkRecords (portalsAt y 4096 n.vertices (polygonsOf v) n.polygons (linkPlaceOf v t) w h border))) where
+        (d : x ≡ splice y (link_place_of v t) (link_records (portals_at y 4096 n.vertices (polygons_of v) n.polygons (link_place_of v t) w h border))) where
       links : List (List ℕ)
-      links = linksWith w h border (meshAt u (siteOf v t) n)
+      links = links_with w h border (mesh_at u (site_of v t) n)
 
       -- the links that R7 read are R6's
-      read : portalsAt y 4096 n.vertices (polygonsOf v) n.polygons (linkPlaceOf v t) w h border ≡ links
+      read : portals_at y 4096 n.vertices (polygons_of v) n.polygons (link_place_of v t) w h border ≡ links
       unfolding links
-      read = rw (same-vertices, same-polygons, linked-links link-ready e)
+      read = rw (same_vertices, same_polygons, linked_links link_ready e)
 
-      written : x ≡ splice y (linkPlaceOf v t) (linkRecords links)
-      written = d ∙ ap (λ (l : List (List ℕ)). splice y (linkPlaceOf v t) (linkRecords l)) read
+      written : x ≡ splice y (link_place_of v t) (link_records links)
+      written = d ∙ ap (λ (l : List (List ℕ)). splice y (link_place_of v t) (link_records l)) read
 
       -- and stand in their place, being as many
-      over : x ≡ splice (edged u (edgeTablesOf v t) n.vertices (edgesOf (polygonsAt u (polygonsOf v) n.polygons))) (linkPlaceOf v t) (linkRecords links)
+      over : x ≡ splice (edged u (edge_tables_of v t) n.vertices (edges_of (polygons_at u (polygons_of v) n.polygons))) (link_place_of v t) (link_records links)
       unfolding links
       over =
-          let ps = polygonsAt u (polygonsOf v) n.polygons in
-          let a = length-links ps (linksOf ps) small (links-shaped ps) in
-          let b = length-links ps links small (portals-shaped (verticesAt u 4096 n.vertices) w h border ps (linksOf ps) (links-shaped ps)) in
+          let ps = polygons_at u (polygons_of v) n.polygons in
+          let a = length_links ps (links_of ps) small (links_shaped ps) in
+          let b = length_links ps links small (portals_shaped (vertices_at u 4096 n.vertices) w h border ps (links_of ps) (links_shaped ps)) in
           written
-          ∙ ap (λ (z : List ℕ). splice z (linkPlaceOf v t) (linkRecords links)) e
-          ∙ splice-over _ (linkPlaceOf v t) (linkRecords (linksOf ps)) (linkRecords links) (omega arith)
+          ∙ ap (λ (z : List ℕ). splice z (link_place_of v t) (link_records links)) e
+          ∙ splice_over _ (link_place_of v t) (link_records (links_of ps)) (link_records links) (omega arith)
 
       size : length x ≡ length u
-      size = ap length d ∙ length-splice y (linkPlaceOf v t) _ ∙ linked-size link-ready e
+      size = ap length d ∙ length_splice y (link_place_of v t) _ ∙ linked_size link_ready e
 
-      vertices-stand : verticesAt x 4096 n.vertices ≡ verticesAt u 4096 n.vertices
-      unfolding verticesAt
-      vertices-stand =
-          ap (λ (z : List ℕ). verticesAt z 4096 n.vertices) d
-          ∙ blocks-after vertexIn y (linkPlaceOf v t) 4096 vertexSize n.vertices _ (omega (arith, vertices-end, polygons-end))
-          ∙ same-vertices
+      vertices_stand : vertices_at x 4096 n.vertices ≡ vertices_at u 4096 n.vertices
+      unfolding vertices_at
+      vertices_stand =
+          ap (λ (z : List ℕ). vertices_at z 4096 n.vertices) d
+          ∙ blocks_after vertex_in y (link_place_of v t) 4096 vertex_size n.vertices _ (omega (arith, vertices_end, polygons_end))
+          ∙ same_vertices
 
-      polygons-stand : polygonsAt x (polygonsOf v) n.polygons ≡ polygonsAt u (polygonsOf v) n.polygons
-      unfolding polygonsAt
-      polygons-stand =
-          ap (λ (z : List ℕ). polygonsAt z (polygonsOf v) n.polygons) d
-          ∙ blocks-after polygonIn y (linkPlaceOf v t) (polygonsOf v) polygonSize n.polygons _ polygons-end
-          ∙ same-polygons
+      polygons_stand : polygons_at x (polygons_of v) n.polygons ≡ polygons_at u (polygons_of v) n.polygons
+      unfolding polygons_at
+      polygons_stand =
+          ap (λ (z : List ℕ). polygons_at z (polygons_of v) n.polygons) d
+          ∙ blocks_after polygon_in y (link_place_of v t) (polygons_of v) polygon_size n.polygons _ polygons_end
+          ∙ same_polygons
 
-      links-stand : linksAt x (linkPlaceOf v t) (polygonsAt u (polygonsOf v) n.polygons) ≡ links
-      links-stand = ap (linksAt x (linkPlaceOf v t)) (sym same-polygons) ∙ marked-links mark-ready w h border d ∙ read
+      links_stand : links_at x (link_place_of v t) (polygons_at u (polygons_of v) n.polygons) ≡ links
+      links_stand = ap (links_at x (link_place_of v t)) (sym same_polygons) ∙ marked_links mark_ready w h border d ∙ read
 
       pub linked : LinkedTo u x v t n w h border
       unfolding links
@@ -142,12 +142,12 @@ module _ {u : List ℕ} {v t : ℕ} {n : Counts} (r : LinkableReady u v t n) whe
         is = over;
         size = size;
         stands = record {
-          vertices-end = omega (arith, vertices-end, polygons-end, links_end, size);
-          polygons-end = omega (arith, polygons-end, links_end, size);
+          vertices_end = omega (arith, vertices_end, polygons_end, links_end, size);
+          polygons_end = omega (arith, polygons_end, links_end, size);
           links_end = omega (arith, links_end, size);
-          vertices = vertices-stand;
-          polygons = polygons-stand;
-          links = links-stand;
+          vertices = vertices_stand;
+          polygons = polygons_stand;
+          links = links_stand;
           before = y;
           is = written;
         };

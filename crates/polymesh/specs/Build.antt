@@ -3,17 +3,17 @@ use Rattle.std.specs.Prelude.{◌≡◌, List, ℕ, ◌*◌, ◌≤◌, length}
 use Rattle.rules.specs.Mesh.{Mesh}
 use Rattle.rules.specs.Removal.{Removal}
 use Rattle.rules.specs.Job.{Job}
-use Rattle.rules.specs.Checks.{Lent, vertexStride}
-use Rattle.rules.specs.Build.{built, replyOf}
+use Rattle.rules.specs.Checks.{Lent, vertex_stride}
+use Rattle.rules.specs.Build.{built, reply_of}
 use Rattle.rules.specs.Exits.{wiped, exit_of}
 use Rattle.rules.specs.Widths.{Fits}
 use Rattle.rules.specs.declared.Reply.{Reply}
 use Rattle.outputs.specs.Ready.{buffers}
-use Rattle.polymesh.specs.Gather.{Admitted, comesTo}
+use Rattle.polymesh.specs.Gather.{Admitted, comes_to}
 
 -- there is room for v vertices and t polygons in the six buffers
 pub record Room (v t nvp : ℕ) (b : Lent) : Type 0 where
-  pub vertices : v * vertexStride ≤ length b.vertices
+  pub vertices : v * vertex_stride ≤ length b.vertices
   pub polygons : t * nvp ≤ length b.polygons
   pub neighbours : t * nvp ≤ length b.neighbours
   pub regions : t ≤ length b.regions
@@ -25,7 +25,7 @@ pub record BuildReady (n v t : ℕ) (j : Job) (b : Lent) : Type 0 where
   pub size : length b.work ≡ n
   pub job : Admitted v t j
   pub room : Room v t j.nvp b
-  pub fits : (m : Mesh) (links : List (List ℕ)) (log : List Removal) → comesTo j ≡ built m links log → Fits m links
+  pub fits : (m : Mesh) (links : List (List ℕ)) (log : List Removal) → comes_to j ≡ built m links log → Fits m links
 
 -- the buffers b, of which another work buffer is lent
 abbrev pub lending : Lent → List ℕ → Lent
@@ -33,10 +33,10 @@ lending b x = buffers b.vertices b.polygons b.neighbours b.regions b.codes b.fla
 
 -- r is the build's reply, and the six other buffers of b became those of u, what the rules say that they hold at the end; the work buffer is to be wiped
 pub record MadeTo (j : Job) (b u : Lent) (r : Reply) : Type 0 where
-  pub answer : r ≡ replyOf (comesTo j)
-  pub exit : (w : List ℕ) → lending u (wiped j w) ≡ exit_of j (lending b w) (comesTo j)
+  pub answer : r ≡ reply_of (comes_to j)
+  pub exit : (w : List ℕ) → lending u (wiped j w) ≡ exit_of j (lending b w) (comes_to j)
 
 -- r is the build's reply, and the buffers b became u, what the rules say that they hold at the end
 pub record BuiltTo (j : Job) (b u : Lent) (r : Reply) : Type 0 where
-  pub answer : r ≡ replyOf (comesTo j)
-  pub exit : u ≡ exit_of j b (comesTo j)
+  pub answer : r ≡ reply_of (comes_to j)
+  pub exit : u ≡ exit_of j b (comes_to j)

@@ -2,7 +2,7 @@
 ghost use Rattle.std.specs.Prelude.{◌≡◌, ℕ, length, replicate};
 ghost use Rattle.checks.specs.Answers.{job_of};
 ghost use Rattle.outputs.specs.Ready.{buffers};
-ghost use Rattle.polymesh.specs.Layout.{words_of, usedOf};
+ghost use Rattle.polymesh.specs.Layout.{words_of, used_of};
 ghost use Rattle.polymesh.specs.Gather.{Admitted, Ready, MeshedTo};
 ghost use Rattle.polymesh.specs.Build.{BuildReady, MadeTo, BuiltTo};
 
@@ -81,7 +81,7 @@ fn make_mesh(
     flags: &mut [u16],
     work: &mut [u32],
 ) -> Reply
-    requires { ((x y z : ℕ) → Admitted v t (job_of nvp x y z lengths.now regions.now codes.now numbers.now)) × BuildReady (usedOf v t) v t (job_of nvp w h border lengths.now regions.now codes.now numbers.now) (buffers vertices.old polygons.old neighbours.old polyregions.old polycodes.old flags.old work.old) }
+    requires { ((x y z : ℕ) → Admitted v t (job_of nvp x y z lengths.now regions.now codes.now numbers.now)) × BuildReady (used_of v t) v t (job_of nvp w h border lengths.now regions.now codes.now numbers.now) (buffers vertices.old polygons.old neighbours.old polyregions.old polycodes.old flags.old work.old) }
     ensures { MadeTo (job_of nvp w h border lengths.now regions.now codes.now numbers.now) (buffers vertices.old polygons.old neighbours.old polyregions.old polycodes.old flags.old work.old) (buffers vertices.new polygons.new neighbours.new polyregions.new polycodes.new flags.new work.new) result }
 {
     match gather_mesh(work, v, t, nvp, lengths, regions, codes, numbers) {

@@ -1,7 +1,7 @@
 // Where everything stands in the work buffer of a build with v vertices and t triangles: the weld's tables, the polygons, and
 // behind them what each step needs, one step after the other in the same place.
 ghost use Rattle.std.specs.Prelude.{◌≡◌, ◌≤◌};
-ghost use Rattle.polymesh.specs.Layout.{Sized, usedOf, polygonsOf, scratchOf, groundOf, siteOf, edgeTablesOf, linkPlaceOf};
+ghost use Rattle.polymesh.specs.Layout.{Sized, used_of, polygons_of, scratch_of, ground_of, site_of, edge_tables_of, link_place_of};
 ghost use Rattle.polymesh.specs.Linking.{places_of};
 
 use contours::ground::Ground;
@@ -15,7 +15,7 @@ const VERTICES: usize = 4096;
 // Where the polygons begin.
 fn polygons_at(v: usize) -> usize
     requires { v ≤ 65535 }
-    ensures { result ≡ polygonsOf v }
+    ensures { result ≡ polygons_of v }
 {
     VERTICES + 6 * v
 }
@@ -23,7 +23,7 @@ fn polygons_at(v: usize) -> usize
 // Where the scratch of each step begins.
 fn scratch_at(v: usize, t: usize) -> usize
     requires { Sized v t }
-    ensures { result ≡ scratchOf v t }
+    ensures { result ≡ scratch_of v t }
 {
     polygons_at(v) + 18 * t
 }
@@ -31,7 +31,7 @@ fn scratch_at(v: usize, t: usize) -> usize
 // How many words a build uses: behind the polygons, scratch for a contour, for a removal or for the links.
 pub fn used_words(v: usize, t: usize) -> usize
     requires { Sized v t }
-    ensures { result ≡ usedOf v t }
+    ensures { result ≡ used_of v t }
 {
     VERTICES + 13 * v + 51 * t
 }
@@ -39,7 +39,7 @@ pub fn used_words(v: usize, t: usize) -> usize
 // For the contours.
 pub fn ground(v: usize, t: usize) -> Ground
     requires { Sized v t }
-    ensures { result ≡ groundOf v t }
+    ensures { result ≡ ground_of v t }
 {
     Ground {
         buckets: 0,
@@ -55,7 +55,7 @@ pub fn ground(v: usize, t: usize) -> Ground
 // For the removals.
 pub fn site(v: usize, t: usize) -> Site
     requires { Sized v t }
-    ensures { result ≡ siteOf v t }
+    ensures { result ≡ site_of v t }
 {
     Site {
         vertices: VERTICES,
@@ -69,7 +69,7 @@ pub fn site(v: usize, t: usize) -> Site
 // For the sides' records: three for each triangle, since polygons have at most so many corners.
 pub fn edge_tables(v: usize, t: usize) -> EdgeTables
     requires { Sized v t }
-    ensures { result ≡ edgeTablesOf v t }
+    ensures { result ≡ edge_tables_of v t }
 {
     let firsts = scratch_at(v, t);
     let edges = firsts + v;
@@ -83,7 +83,7 @@ pub fn edge_tables(v: usize, t: usize) -> EdgeTables
 // For the links.
 pub fn links_at(v: usize, t: usize) -> usize
     requires { Sized v t }
-    ensures { result ≡ linkPlaceOf v t }
+    ensures { result ≡ link_place_of v t }
 {
     scratch_at(v, t) + v + 21 * t
 }

@@ -1,12 +1,12 @@
 // The numbers of a refusal, as document 01's table has them.
 ghost use Rattle.std.specs.Prelude.{◌≡◌};
-ghost use Rattle.rules.specs.Replies.{refusalNumber, refusalSecond};
+ghost use Rattle.rules.specs.Replies.{refusal_number, refusal_second};
 
 use rules::Refusal;
 
 // Its number, 1 to 8.
 pub fn refusal_number(refusal: Refusal) -> u64
-    ensures { result ≡ refusalNumber refusal }
+    ensures { result ≡ refusal_number refusal }
 {
     match refusal {
         Refusal::BadCornerLimit(_) => 1,
@@ -22,7 +22,7 @@ pub fn refusal_number(refusal: Refusal) -> u64
 
 // Its second number.
 pub fn refusal_second(refusal: Refusal) -> u64
-    ensures { result ≡ refusalSecond refusal }
+    ensures { result ≡ refusal_second refusal }
 {
     match refusal {
         Refusal::BadCornerLimit(n) => n,

@@ -1,5 +1,5 @@
 -- The kept rows in the buffer: their words, one row after the other from the last one down, and the best pair from them. Assumes nothing.
--- Key: `keeping-more`: a row more is kept, and nothing else has changed; `row_read`: what is read of a row is the row, against the best so far.
+-- Key: `keeping_more`: a row more is kept, and nothing else has changed; `row_read`: what is read of a row is the row, against the best so far.
 use mathlib.Core.Path.{◌≡◌, refl, sym, ap, ◌∙◌}
 use mathlib.Core.Bool.{Bool, true, false}
 use mathlib.Core.Logic.{⊎_elim, ◌≢◌}
@@ -10,118 +10,118 @@ use borrow.Author.Tests.{eqb-true}
 use lib.Bits.{bit_and}
 use lib.Dec.{eqb}
 use lib.ListN.{length, get_or, set, replicate, length-replicate}
-use Rattle.mem.specs.Cases.{lt-or-le, eq-or-ne}
-use Rattle.mem.specs.Slice.{view, splice, length-splice, view-before, view-after, view-same, getD-view, setEach, stored-each}
-use Rattle.mem.specs.Tab.{blocks-after}
+use Rattle.mem.specs.Cases.{lt_or_le, eq_or_ne}
+use Rattle.mem.specs.Slice.{view, splice, length_splice, view_before, view_after, view_same, get_or_view, set_each, stored_each}
+use Rattle.mem.specs.Tab.{blocks_after}
 use Rattle.mem.specs.Zeros.{swallowed}
-use Rattle.rules.specs.Mesh.{Polygon, polygonAt}
-use Rattle.rules.specs.Merge.{noPair, mergeValue, greater}
+use Rattle.rules.specs.Mesh.{Polygon, polygon_at}
+use Rattle.rules.specs.Merge.{no_pair, merge_value, greater}
 use Rattle.rules.specs.declared.Vertex.{Vertex}
 use Rattle.rules.specs.declared.Pair.{Pair}
-use Rattle.laws.specs.Longest.{greater-first}
-use Rattle.laws.specs.Rows.{row_of, rowAgainst, row_is}
-use Rattle.laws.specs.Stamps.{stampOf, apart-value}
-use Rattle.records.specs.Layout.{vertexSize, polygonSize, vertexIn, polygonIn, verticesAt, polygonsAt}
-use Rattle.records.specs.Values.{cornersFrom}
-use Rattle.records.specs.Polygons.{length-polygons}
-use Rattle.polys.specs.Rows.{rowSize, rowWords, rowRecord, row_at, row_in, stampIn, wiped, RowIs, RowsReady, RowFits, KeptFrom, Stamped, RowsKept}
-use Rattle.polys.proofs.Values.{small_at, corners-in}
+use Rattle.laws.specs.Longest.{greater_first}
+use Rattle.laws.specs.Rows.{row_of, row_against, row_is}
+use Rattle.laws.specs.Stamps.{stamp_of, apart_value}
+use Rattle.records.specs.Layout.{vertex_size, polygon_size, vertex_in, polygon_in, vertices_at, polygons_at}
+use Rattle.records.specs.Values.{corners_from}
+use Rattle.records.specs.Polygons.{length_polygons}
+use Rattle.polys.specs.Rows.{row_size, row_words, row_record, row_at, row_in, stamp_in, wiped, RowIs, RowsReady, RowFits, KeptFrom, Stamped, RowsKept}
+use Rattle.polys.proofs.Values.{small_at, corners_in_lem}
 
 -- ---- a row's words
 
-pub row-stored : (w : List ℕ) (at : ℕ) (m : Pair) (s : ℕ)
-    → set (set (set (set (set w at m.length) (at + 1) m.b) (at + 2) m.ea) (at + 3) m.eb) (at + 4) s ≡ splice w at (rowWords m s)
-unfolding rowWords setEach
-row-stored w at m s = stored-each w at m.length (m.b ∷ m.ea ∷ m.eb ∷ s ∷ [])
+pub row_stored : (w : List ℕ) (at : ℕ) (m : Pair) (s : ℕ)
+    → set (set (set (set (set w at m.length) (at + 1) m.b) (at + 2) m.ea) (at + 3) m.eb) (at + 4) s ≡ splice w at (row_words m s)
+unfolding row_words set_each
+row_stored w at m s = stored_each w at m.length (m.b ∷ m.ea ∷ m.eb ∷ s ∷ [])
 
-record-long : (vs : List Vertex) (nvp : ℕ) (ps : List Polygon) (r : ℕ) → length (rowRecord vs nvp ps r) ≡ rowSize
-unfolding rowRecord rowWords
-record-long vs nvp ps r = refl
+record_long : (vs : List Vertex) (nvp : ℕ) (ps : List Polygon) (r : ℕ) → length (row_record vs nvp ps r) ≡ row_size
+unfolding row_record row_words
+record_long vs nvp ps r = refl
 
 -- a word of a row that is m with the stamp s
-word_of : (w : List ℕ) (ro r : ℕ) (xs : List ℕ) (i : ℕ) → row_at w ro r ≡ xs → i < rowSize → get_or w (ro + r * rowSize + i) 0 ≡ get_or xs i 0
-word_of w ro r xs i e h = sym (getD-view w (ro + r * rowSize) rowSize i 0 h) ∙ ap (λ (l : List ℕ). get_or l i 0) e
+word_of : (w : List ℕ) (ro r : ℕ) (xs : List ℕ) (i : ℕ) → row_at w ro r ≡ xs → i < row_size → get_or w (ro + r * row_size + i) 0 ≡ get_or xs i 0
+word_of w ro r xs i e h = sym (get_or_view w (ro + r * row_size) row_size i 0 h) ∙ ap (λ (l : List ℕ). get_or l i 0) e
 
 pair_is : (m : Pair) (l a b i j : ℕ) → l ≡ m.length → a ≡ m.a → b ≡ m.b → i ≡ m.ea → j ≡ m.eb
     → ◌≡◌ {A = Pair} (record { length = l; a = a; b = b; ea = i; eb = j }) m
 pair_is m l a b i j el ea eb ei ej = rw (el, ea, eb, ei, ej) refl
 
 module _ {w : List ℕ} {ro r nvp : ℕ} {vs : List Vertex} {ps : List Polygon} (e : RowIs w ro r vs nvp ps) where
-  pub length-read : (row_in w ro r).length ≡ (row_of vs nvp ps r).length
-  unfolding row_in rowRecord rowWords
-  length-read = ap (λ (k : ℕ). get_or w k 0) (omega arith) ∙ word_of w ro r (rowRecord vs nvp ps r) 0 e.is (omega arith)
+  pub length_read : (row_in w ro r).length ≡ (row_of vs nvp ps r).length
+  unfolding row_in row_record row_words
+  length_read = ap (λ (k : ℕ). get_or w k 0) (omega arith) ∙ word_of w ro r (row_record vs nvp ps r) 0 e.is (omega arith)
 
-  pub second-read : (row_in w ro r).b ≡ (row_of vs nvp ps r).b
-  unfolding row_in rowRecord rowWords
-  second-read = word_of w ro r (rowRecord vs nvp ps r) 1 e.is (omega arith)
+  pub second_read : (row_in w ro r).b ≡ (row_of vs nvp ps r).b
+  unfolding row_in row_record row_words
+  second_read = word_of w ro r (row_record vs nvp ps r) 1 e.is (omega arith)
 
-  pub stamp-read : stampIn w ro r ≡ stampOf (polygonAt ps r).corners
-  unfolding rowRecord rowWords
-  stamp-read = word_of w ro r (rowRecord vs nvp ps r) 4 e.is (omega arith)
+  pub stamp_read : stamp_in w ro r ≡ stamp_of (polygon_at ps r).corners
+  unfolding row_record row_words
+  stamp_read = word_of w ro r (row_record vs nvp ps r) 4 e.is (omega arith)
 
   pair_read : (row_of vs nvp ps r).a ≡ r → row_in w ro r ≡ row_of vs nvp ps r
-  unfolding row_in rowRecord rowWords
+  unfolding row_in row_record row_words
   pair_read own =
-      pair_is (row_of vs nvp ps r) _ _ _ _ _ length-read (sym own) second-read (word_of w ro r (rowRecord vs nvp ps r) 2 e.is (omega arith))
-      (word_of w ro r (rowRecord vs nvp ps r) 3 e.is (omega arith))
+      pair_is (row_of vs nvp ps r) _ _ _ _ _ length_read (sym own) second_read (word_of w ro r (row_record vs nvp ps r) 2 e.is (omega arith))
+      (word_of w ro r (row_record vs nvp ps r) 3 e.is (omega arith))
 
   -- what is read of a row is the row, against the best so far
-  pub row_read : (s : Pair) {m : Pair} → r < length ps → m ≡ row_in w ro r → greater s m ≡ rowAgainst vs nvp ps r s
-  unfolding rowAgainst
+  pub row_read : (s : Pair) {m : Pair} → r < length ps → m ≡ row_in w ro r → greater s m ≡ row_against vs nvp ps r s
+  unfolding row_against
   row_read s {m} h f =
       let y = row_of vs nvp ps r in
       ⊎_elim
       (λ (l : s.length < y.length). ap (greater s) (f ∙ pair_read ((row_is vs nvp ps r h).first (omega arith))))
-      (λ (l : y.length ≤ s.length). greater-first s m (omega (arith, ap (λ (x : Pair). x.length) f, length-read)) ∙ sym (greater-first s y l))
-      (lt-or-le s.length y.length)
+      (λ (l : y.length ≤ s.length). greater_first s m (omega (arith, ap (λ (x : Pair). x.length) f, length_read)) ∙ sym (greater_first s y l))
+      (lt_or_le s.length y.length)
 
 -- ---- words behind the polygons are written
 
 module _ {w : List ℕ} {vo nv o np nvp ro : ℕ} (ready : RowsReady w vo nv o np nvp ro) {v : List ℕ} (at : ℕ) (xs : List ℕ) (far : ro ≤ at)
     (e : v ≡ splice w at xs) where
-  pub vertices-under : verticesAt v vo nv ≡ verticesAt w vo nv
-  unfolding verticesAt
-  vertices-under = rw e (blocks-after vertexIn w at vo vertexSize nv xs (omega (arith, ready.ready.behind, ready.behind)))
+  pub vertices_under : vertices_at v vo nv ≡ vertices_at w vo nv
+  unfolding vertices_at
+  vertices_under = rw e (blocks_after vertex_in w at vo vertex_size nv xs (omega (arith, ready.ready.behind, ready.behind)))
 
-  pub polygons-under : polygonsAt v o np ≡ polygonsAt w o np
-  unfolding polygonsAt
-  polygons-under = rw e (blocks-after polygonIn w at o polygonSize np xs (omega (arith, ready.behind)))
+  pub polygons_under : polygons_at v o np ≡ polygons_at w o np
+  unfolding polygons_at
+  polygons_under = rw e (blocks_after polygon_in w at o polygon_size np xs (omega (arith, ready.behind)))
 
-  pub size-under : length v ≡ length w
-  size-under = ap length e ∙ length-splice w at xs
+  pub size_under : length v ≡ length w
+  size_under = ap length e ∙ length_splice w at xs
 
-  pub ready-under : RowsReady v vo nv o np nvp ro
-  ready-under = record {
+  pub ready_under : RowsReady v vo nv o np nvp ro
+  ready_under = record {
     ready = record {
-      placed = record { fits = omega (arith, size-under, ready.ready.placed.fits); grid = rw vertices-under ready.ready.placed.grid };
+      placed = record { fits = omega (arith, size_under, ready.ready.placed.fits); grid = rw vertices_under ready.ready.placed.grid };
       behind = ready.ready.behind;
-      fits = omega (arith, size-under, ready.ready.fits);
+      fits = omega (arith, size_under, ready.ready.fits);
       most = ready.ready.most;
-      good = rw polygons-under ready.ready.good;
+      good = rw polygons_under ready.ready.good;
     };
     behind = ready.behind;
-    room = omega (arith, size-under, ready.room);
+    room = omega (arith, size_under, ready.room);
     few = ready.few;
   }
 
 -- ---- one row after the other, from the last one down
 
 -- fewer rows are asked for
-kept-fewer : {w : List ℕ} {vo nv o np nvp ro f : ℕ} (g : ℕ) → f ≤ g → KeptFrom w vo nv o np nvp ro f → KeptFrom w vo nv o np nvp ro g
-kept-fewer g h k = record { rows = k.rows; at = λ r l m. k.at r (omega arith) m }
+kept_fewer : {w : List ℕ} {vo nv o np nvp ro f : ℕ} (g : ℕ) → f ≤ g → KeptFrom w vo nv o np nvp ro f → KeptFrom w vo nv o np nvp ro g
+kept_fewer g h k = record { rows = k.rows; at = λ r l m. k.at r (omega arith) m }
 
 -- the rows from r on are kept, those below are as they were, and so is every other word
 pub record Keeping (w₀ : List ℕ) (vo nv o np nvp ro : ℕ) (w : List ℕ) (r : ℕ) : Type 0 where
   pub kept : KeptFrom w vo nv o np nvp ro r
   pub below : (q : ℕ) → q < r → row_at w ro q ≡ row_at w₀ ro q
   pub same : wiped w ro np ≡ wiped w₀ ro np
-  pub vertices : verticesAt w vo nv ≡ verticesAt w₀ vo nv
-  pub polygons : polygonsAt w o np ≡ polygonsAt w₀ o np
+  pub vertices : vertices_at w vo nv ≡ vertices_at w₀ vo nv
+  pub polygons : polygons_at w o np ≡ polygons_at w₀ o np
   pub size : length w ≡ length w₀
   pub most : r ≤ np
 
-pub keeping-begin : {w : List ℕ} {vo nv o np nvp ro : ℕ} → RowsReady w vo nv o np nvp ro → Keeping w vo nv o np nvp ro w np
-keeping-begin ready = record {
+pub keeping_begin : {w : List ℕ} {vo nv o np nvp ro : ℕ} → RowsReady w vo nv o np nvp ro → Keeping w vo nv o np nvp ro w np
+keeping_begin ready = record {
   kept = record { rows = ready; at = λ r f h. absurd (omega arith) };
   below = λ q h. refl;
   same = refl;
@@ -132,82 +132,82 @@ keeping-begin ready = record {
 }
 
 module _ {w₀ : List ℕ} {vo nv o np nvp ro : ℕ} {w : List ℕ} {r : ℕ} (g : Keeping w₀ vo nv o np nvp ro w r) (some : 0 < r) where
-  pub kept-behind : KeptFrom w vo nv o np nvp ro (r - 1 + 1)
-  kept-behind = kept-fewer (r - 1 + 1) (omega arith) g.kept
+  pub kept_behind : KeptFrom w vo nv o np nvp ro (r - 1 + 1)
+  kept_behind = kept_fewer (r - 1 + 1) (omega arith) g.kept
 
-  module _ {v : List ℕ} (e : v ≡ splice w (ro + (r - 1) * rowSize) (rowRecord (verticesAt w vo nv) nvp (polygonsAt w o np) (r - 1))) where
+  module _ {v : List ℕ} (e : v ≡ splice w (ro + (r - 1) * row_size) (row_record (vertices_at w vo nv) nvp (polygons_at w o np) (r - 1))) where
     row : List ℕ
-    row = rowRecord (verticesAt w vo nv) nvp (polygonsAt w o np) (r - 1)
+    row = row_record (vertices_at w vo nv) nvp (polygons_at w o np) (r - 1)
 
-    long : length row ≡ rowSize
+    long : length row ≡ row_size
     unfolding row
-    long = record-long (verticesAt w vo nv) nvp (polygonsAt w o np) (r - 1)
+    long = record_long (vertices_at w vo nv) nvp (polygons_at w o np) (r - 1)
 
-    room : ro + np * rowSize ≤ length w
+    room : ro + np * row_size ≤ length w
     room = g.kept.rows.room
 
-    wiped-on : wiped v ro np ≡ wiped w ro np
+    wiped_on : wiped v ro np ≡ wiped w ro np
     unfolding wiped row
-    wiped-on = rw e (swallowed w ro ((r - 1) * rowSize) row (replicate (np * rowSize) 0)
-        (omega (arith, long, length-replicate {A = ℕ} (np * rowSize) 0, g.most)) (omega (arith, length-replicate {A = ℕ} (np * rowSize) 0, room)))
+    wiped_on = rw e (swallowed w ro ((r - 1) * row_size) row (replicate (np * row_size) 0)
+        (omega (arith, long, length-replicate {A = ℕ} (np * row_size) 0, g.most)) (omega (arith, length-replicate {A = ℕ} (np * row_size) 0, room)))
 
-    vertices-on : verticesAt v vo nv ≡ verticesAt w vo nv
-    vertices-on = vertices-under g.kept.rows (ro + (r - 1) * rowSize) _ (omega arith) e
+    vertices_on : vertices_at v vo nv ≡ vertices_at w vo nv
+    vertices_on = vertices_under g.kept.rows (ro + (r - 1) * row_size) _ (omega arith) e
 
-    polygons-on : polygonsAt v o np ≡ polygonsAt w o np
-    polygons-on = polygons-under g.kept.rows (ro + (r - 1) * rowSize) _ (omega arith) e
+    polygons_on : polygons_at v o np ≡ polygons_at w o np
+    polygons_on = polygons_under g.kept.rows (ro + (r - 1) * row_size) _ (omega arith) e
 
     row_on : row_at v ro (r - 1) ≡ row
     unfolding row
-    row_on = rw e (view-same w (ro + (r - 1) * rowSize) rowSize row long (omega (arith, room, g.most)))
+    row_on = rw e (view_same w (ro + (r - 1) * row_size) row_size row long (omega (arith, room, g.most)))
 
-    others-on : (q : ℕ) → r ≤ q → row_at v ro q ≡ row_at w ro q
+    others_on : (q : ℕ) → r ≤ q → row_at v ro q ≡ row_at w ro q
     unfolding row
-    others-on q h = rw e (view-after w (ro + (r - 1) * rowSize) (ro + q * rowSize) rowSize row (omega (arith, long)))
+    others_on q h = rw e (view_after w (ro + (r - 1) * row_size) (ro + q * row_size) row_size row (omega (arith, long)))
 
-    pub keeping-more : Keeping w₀ vo nv o np nvp ro v (r - 1)
+    pub keeping_more : Keeping w₀ vo nv o np nvp ro v (r - 1)
     unfolding row
-    keeping-more = record {
+    keeping_more = record {
       kept = record {
-        rows = ready-under g.kept.rows (ro + (r - 1) * rowSize) _ (omega arith) e;
-        at = λ q h k. rw (vertices-on, polygons-on) (⊎_elim
+        rows = ready_under g.kept.rows (ro + (r - 1) * row_size) _ (omega arith) e;
+        at = λ q h k. rw (vertices_on, polygons_on) (⊎_elim
             (λ (z : q ≡ r - 1). rw z (record { is = row_on }))
-            (λ (z : q ≢ r - 1). record { is = others-on q (omega (arith, z)) ∙ (g.kept.at q (omega (arith, z)) k).is })
-            (eq-or-ne q (r - 1)));
+            (λ (z : q ≢ r - 1). record { is = others_on q (omega (arith, z)) ∙ (g.kept.at q (omega (arith, z)) k).is })
+            (eq_or_ne q (r - 1)));
       };
-      below = λ q h. rw e (view-before w (ro + (r - 1) * rowSize) (ro + q * rowSize) rowSize _ (omega arith)) ∙ g.below q (omega arith);
-      same = wiped-on ∙ g.same;
-      vertices = vertices-on ∙ g.vertices;
-      polygons = polygons-on ∙ g.polygons;
-      size = size-under g.kept.rows (ro + (r - 1) * rowSize) _ (omega arith) e ∙ g.size;
+      below = λ q h. rw e (view_before w (ro + (r - 1) * row_size) (ro + q * row_size) row_size _ (omega arith)) ∙ g.below q (omega arith);
+      same = wiped_on ∙ g.same;
+      vertices = vertices_on ∙ g.vertices;
+      polygons = polygons_on ∙ g.polygons;
+      size = size_under g.kept.rows (ro + (r - 1) * row_size) _ (omega arith) e ∙ g.size;
       most = omega (arith, g.most);
     }
 
-pub keeping-end : {w₀ : List ℕ} {vo nv o np nvp ro : ℕ} {w : List ℕ} {r : ℕ} → Keeping w₀ vo nv o np nvp ro w r → r ≤ 0 → RowsKept w₀ w vo nv o np nvp ro
-keeping-end g h = record { kept = kept-fewer 0 h g.kept; same = g.same }
+pub keeping_end : {w₀ : List ℕ} {vo nv o np nvp ro : ℕ} {w : List ℕ} {r : ℕ} → Keeping w₀ vo nv o np nvp ro w r → r ≤ 0 → RowsKept w₀ w vo nv o np nvp ro
+keeping_end g h = record { kept = kept_fewer 0 h g.kept; same = g.same }
 
 -- ---- a row and its stamp
 
 -- a stamp made of the corners where they stand
-pub stamped-of : {w : List ℕ} {vo nv o np nvp ro : ℕ} (r : ℕ) {s : ℕ} → KeptFrom w vo nv o np nvp ro (r + 1) → r < np
-    → s ≡ stampOf (cornersFrom w (o + r * polygonSize)) → Stamped w vo nv o np nvp ro r s
-stamped-of r k h e = record { kept = k; below = h; is = e ∙ ap stampOf (corners-in k.rows.ready r h) }
+pub stamped_of : {w : List ℕ} {vo nv o np nvp ro : ℕ} (r : ℕ) {s : ℕ} → KeptFrom w vo nv o np nvp ro (r + 1) → r < np
+    → s ≡ stamp_of (corners_from w (o + r * polygon_size)) → Stamped w vo nv o np nvp ro r s
+stamped_of r k h e = record { kept = k; below = h; is = e ∙ ap stamp_of (corners_in_lem k.rows.ready r h) }
 
 module _ {w : List ℕ} {vo nv o np nvp ro r s : ℕ} (k : Stamped w vo nv o np nvp ro r s) where
-  pub stamped-apart : (q t : ℕ) {u : Bool} {m : Pair} → r < q → q < np → t ≡ stampIn w ro q → u ≡ eqb (bit_and s t) 0 → u ≡ true → m ≡ noPair
-      → m ≡ mergeValue (verticesAt w vo nv) nvp (polygonsAt w o np) r q
-  stamped-apart q t h b f e z n =
-      let x : t ≡ stampOf (polygonAt (polygonsAt w o np) q).corners = f ∙ stamp-read (k.kept.at q (omega arith) b) in
+  pub stamped_apart : (q t : ℕ) {u : Bool} {m : Pair} → r < q → q < np → t ≡ stamp_in w ro q → u ≡ eqb (bit_and s t) 0 → u ≡ true → m ≡ no_pair
+      → m ≡ merge_value (vertices_at w vo nv) nvp (polygons_at w o np) r q
+  stamped_apart q t h b f e z n =
+      let x : t ≡ stamp_of (polygon_at (polygons_at w o np) q).corners = f ∙ stamp_read (k.kept.at q (omega arith) b) in
       let y : bit_and s t ≡ 0 = eqb-true (bit_and s t) 0 (sym e ∙ z) in
-      n ∙ sym (apart-value (verticesAt w vo nv) nvp (polygonsAt w o np) r q (rw (k.is, x) at y))
+      n ∙ sym (apart_value (vertices_at w vo nv) nvp (polygons_at w o np) r q (rw (k.is, x) at y))
 
   -- the numbers of the pair are words
-  pub row_fits : {m : Pair} → m ≡ row_of (verticesAt w vo nv) nvp (polygonsAt w o np) r → RowFits w (ro + r * rowSize) m
+  pub row_fits : {m : Pair} → m ≡ row_of (vertices_at w vo nv) nvp (polygons_at w o np) r → RowFits w (ro + r * row_size) m
   row_fits {m} e =
-      let vs = verticesAt w vo nv in
-      let ps = polygonsAt w o np in
+      let vs = vertices_at w vo nv in
+      let ps = polygons_at w o np in
       let y = row_of vs nvp ps r in
-      let l = length-polygons w o np in
+      let l = length_polygons w o np in
       let i = row_is vs nvp ps r (omega (arith, k.below)) in
       rw e (⊎_elim
       (λ (a : 0 < y.length).
@@ -217,20 +217,20 @@ module _ {w : List ℕ} {vo nv o np nvp ro r s : ℕ} (k : Stamped w vo nv o np 
       record {
         room = omega (arith, k.below, k.kept.rows.room);
         second = omega (arith, j.below, k.kept.rows.few);
-        side-a = omega (arith, j.side-a, p);
-        side-b = omega (arith, j.side-b, q);
+        side_a = omega (arith, j.side_a, p);
+        side_b = omega (arith, j.side_b, q);
       })
       (λ (a : y.length ≤ 0).
       let n = i.none (omega arith) in
       record {
         room = omega (arith, k.below, k.kept.rows.room);
         second = omega (arith, ap (λ (x : Pair). x.b) n);
-        side-a = omega (arith, ap (λ (x : Pair). x.ea) n);
-        side-b = omega (arith, ap (λ (x : Pair). x.eb) n);
+        side_a = omega (arith, ap (λ (x : Pair). x.ea) n);
+        side_b = omega (arith, ap (λ (x : Pair). x.eb) n);
       })
-      (lt-or-le 0 y.length))
+      (lt_or_le 0 y.length))
 
-  pub row_made : {m : Pair} {v : List ℕ} → m ≡ row_of (verticesAt w vo nv) nvp (polygonsAt w o np) r → v ≡ splice w (ro + r * rowSize) (rowWords m s)
-      → v ≡ splice w (ro + r * rowSize) (rowRecord (verticesAt w vo nv) nvp (polygonsAt w o np) r)
-  unfolding rowRecord
+  pub row_made : {m : Pair} {v : List ℕ} → m ≡ row_of (vertices_at w vo nv) nvp (polygons_at w o np) r → v ≡ splice w (ro + r * row_size) (row_words m s)
+      → v ≡ splice w (ro + r * row_size) (row_record (vertices_at w vo nv) nvp (polygons_at w o np) r)
+  unfolding row_record
   row_made e f = f ∙ rw (e, k.is) refl

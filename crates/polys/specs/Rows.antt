@@ -2,92 +2,92 @@
 -- in `laws` (`Rows`, `Stamps`). Definitions only.
 use Rattle.std.specs.Prelude.{◌≡◌, Bool, true, false, List, [], ◌∷◌, ℕ, ◌+◌, ◌*◌, ◌^◌, ◌≤◌, ◌<◌, length, get_or, replicate}
 use Rattle.mem.specs.Slice.{view, splice}
-use Rattle.rules.specs.Mesh.{Polygon, polygonAt}
+use Rattle.rules.specs.Mesh.{Polygon, polygon_at}
 use Rattle.rules.specs.declared.Vertex.{Vertex}
 use Rattle.rules.specs.declared.Pair.{Pair}
 use Rattle.laws.specs.Rows.{row_of, After}
-use Rattle.laws.specs.Stamps.{stampOf}
-use Rattle.records.specs.Layout.{polygonSize, verticesAt, polygonsAt, Tidy}
+use Rattle.laws.specs.Stamps.{stamp_of}
+use Rattle.records.specs.Layout.{polygon_size, vertices_at, polygons_at, Tidy}
 use Rattle.polys.specs.Ready.{Ready, MergedTo}
 
 -- ---- a row's words
 
-abbrev pub rowSize : ℕ
-rowSize = 5
+abbrev pub row_size : ℕ
+row_size = 5
 
 -- a pair but for its first polygon, which has the row's number, and the stamp of that polygon
-unfoldable pub rowWords : Pair → ℕ → List ℕ
-rowWords m s = m.length ∷ m.b ∷ m.ea ∷ m.eb ∷ s ∷ []
+unfoldable pub row_words : Pair → ℕ → List ℕ
+row_words m s = m.length ∷ m.b ∷ m.ea ∷ m.eb ∷ s ∷ []
 
 -- the words of row r of the polygons ps
-unfoldable pub rowRecord : List Vertex → ℕ → List Polygon → ℕ → List ℕ
-rowRecord vs nvp ps r = rowWords (row_of vs nvp ps r) (stampOf (polygonAt ps r).corners)
+unfoldable pub row_record : List Vertex → ℕ → List Polygon → ℕ → List ℕ
+row_record vs nvp ps r = row_words (row_of vs nvp ps r) (stamp_of (polygon_at ps r).corners)
 
 -- of the rows at ro: the words of row r, its pair, and its stamp
 abbrev pub row_at : List ℕ → ℕ → ℕ → List ℕ
-row_at w ro r = view w (ro + r * rowSize) rowSize
+row_at w ro r = view w (ro + r * row_size) row_size
 
 unfoldable pub row_in : List ℕ → ℕ → ℕ → Pair
 row_in w ro r = record {
-  length = get_or w (ro + r * rowSize) 0;
+  length = get_or w (ro + r * row_size) 0;
   a = r;
-  b = get_or w (ro + r * rowSize + 1) 0;
-  ea = get_or w (ro + r * rowSize + 2) 0;
-  eb = get_or w (ro + r * rowSize + 3) 0;
+  b = get_or w (ro + r * row_size + 1) 0;
+  ea = get_or w (ro + r * row_size + 2) 0;
+  eb = get_or w (ro + r * row_size + 3) 0;
 }
 
-abbrev pub stampIn : List ℕ → ℕ → ℕ → ℕ
-stampIn w ro r = get_or w (ro + r * rowSize + 4) 0
+abbrev pub stamp_in : List ℕ → ℕ → ℕ → ℕ
+stamp_in w ro r = get_or w (ro + r * row_size + 4) 0
 
 -- row r is that of the polygons ps
 pub record RowIs (w : List ℕ) (ro r : ℕ) (vs : List Vertex) (nvp : ℕ) (ps : List Polygon) : Type 0 where
-  pub is : row_at w ro r ≡ rowRecord vs nvp ps r
+  pub is : row_at w ro r ≡ row_record vs nvp ps r
 
 -- ---- what the functions ask for, and what they leave
 
 -- np polygons, and behind them, at ro, room for their rows
 pub record RowsReady (w : List ℕ) (vo nv o np nvp ro : ℕ) : Type 0 where
   pub ready : Ready w vo nv o np nvp
-  pub behind : o + np * polygonSize ≤ ro
-  pub room : ro + np * rowSize ≤ length w
+  pub behind : o + np * polygon_size ≤ ro
+  pub room : ro + np * row_size ≤ length w
   pub few : np < 2 ^ 28
 
 -- there is room at `at` for a row's words, and the pair's numbers are words
 pub record RowFits (w : List ℕ) (at : ℕ) (m : Pair) : Type 0 where
-  pub room : at + rowSize ≤ length w
+  pub room : at + row_size ≤ length w
   pub second : m.b < 2 ^ 32
-  pub side-a : m.ea < 2 ^ 32
-  pub side-b : m.eb < 2 ^ 32
+  pub side_a : m.ea < 2 ^ 32
+  pub side_b : m.eb < 2 ^ 32
 
 -- of the rows at ro those from f on are kept
 pub record KeptFrom (w : List ℕ) (vo nv o np nvp ro f : ℕ) : Type 0 where
   pub rows : RowsReady w vo nv o np nvp ro
-  pub at : (r : ℕ) → f ≤ r → r < np → RowIs w ro r (verticesAt w vo nv) nvp (polygonsAt w o np)
+  pub at : (r : ℕ) → f ≤ r → r < np → RowIs w ro r (vertices_at w vo nv) nvp (polygons_at w o np)
 
 -- the same, and s is the stamp of polygon r, which is the one before them
 pub record Stamped (w : List ℕ) (vo nv o np nvp ro r s : ℕ) : Type 0 where
   pub kept : KeptFrom w vo nv o np nvp ro (r + 1)
   pub below : r < np
-  pub is : s ≡ stampOf (polygonAt (polygonsAt w o np) r).corners
+  pub is : s ≡ stamp_of (polygon_at (polygons_at w o np) r).corners
 
 -- row r is that of ps, of which a join of a and b left the polygons at o; the rows behind it are kept
 pub record Renewable (w : List ℕ) (vo nv o np nvp ro a b r : ℕ) : Type 0 where
   pub kept : KeptFrom w vo nv o np nvp ro (r + 1)
   pub below : r < np
   pub ps : List Polygon
-  pub after : After ps (polygonsAt w o np) a b
-  pub at : RowIs w ro r (verticesAt w vo nv) nvp ps
+  pub after : After ps (polygons_at w o np) a b
+  pub at : RowIs w ro r (vertices_at w vo nv) nvp ps
 
 -- all rows are those of ps
 pub record AllRenewable (w : List ℕ) (vo nv o np nvp ro a b : ℕ) : Type 0 where
   pub rows : RowsReady w vo nv o np nvp ro
   pub ps : List Polygon
-  pub after : After ps (polygonsAt w o np) a b
-  pub at : (r : ℕ) → r < np → RowIs w ro r (verticesAt w vo nv) nvp ps
+  pub after : After ps (polygons_at w o np) a b
+  pub at : (r : ℕ) → r < np → RowIs w ro r (vertices_at w vo nv) nvp ps
 
 -- w, with zeros in the place of np rows at ro
 unfoldable pub wiped : List ℕ → ℕ → ℕ → List ℕ
-wiped w ro np = splice w ro (replicate (np * rowSize) 0)
+wiped w ro np = splice w ro (replicate (np * row_size) 0)
 
 -- all rows are kept, and every other word is as it was
 pub record RowsKept (w v : List ℕ) (vo nv o np nvp ro : ℕ) : Type 0 where

@@ -1,8 +1,8 @@
 // The best pair of polygons: the longest shared side, the first pair on ties.
 ghost use Rattle.std.specs.Prelude.{◌≡◌, ◌<◌};
-ghost use Rattle.rules.specs.Merge.{bestOfRow, bestPair};
+ghost use Rattle.rules.specs.Merge.{best_of_row, best_pair};
 ghost use Rattle.rules.specs.Merge as Rules;
-ghost use Rattle.records.specs.Layout.{verticesAt, polygonsAt};
+ghost use Rattle.records.specs.Layout.{vertices_at, polygons_at};
 ghost use Rattle.polys.specs.Ready.{Ready};
 
 use crate::value::{get_poly_merge_value, no_pair};
@@ -27,7 +27,7 @@ fn best_of_row(
     best: Pair,
 ) -> Pair
     requires { Ready work.now vo nv o np nvp × (a < np) }
-    ensures { result ≡ bestOfRow (verticesAt work.now vo nv) nvp (polygonsAt work.now o np) a best }
+    ensures { result ≡ best_of_row (vertices_at work.now vo nv) nvp (polygons_at work.now o np) a best }
 {
     let mut m = best;
     let mut b = a + 1;
@@ -41,7 +41,7 @@ fn best_of_row(
 // The best pair of all.
 pub fn best_pair(work: &[u32], vo: usize, nv: usize, o: usize, np: usize, nvp: usize) -> Pair
     requires { Ready work.now vo nv o np nvp }
-    ensures { result ≡ bestPair (verticesAt work.now vo nv) nvp (polygonsAt work.now o np) }
+    ensures { result ≡ best_pair (vertices_at work.now vo nv) nvp (polygons_at work.now o np) }
 {
     let mut m = no_pair();
     let mut a = 0;

@@ -1,10 +1,10 @@
 // The join of a pair, and the merge of all polygons of one contour or one hole.
 ghost use Rattle.std.specs.Prelude.{◌≡◌, cond, [], ◌∷◌, ◌++◌, ◌+◌, ◌≤◌, ◌<◌, eqb};
 ghost use Rattle.mem.specs.Slice.{splice};
-ghost use Rattle.rules.specs.Mesh.{noPolygon};
-ghost use Rattle.rules.specs.Merge.{pastSide, joined, joinPair};
-ghost use Rattle.records.specs.Layout.{mostCorners, polygonsAt, polygonRecords, Tidy};
-ghost use Rattle.records.specs.Values.{cornersOf, polygonOf, Loaded, On};
+ghost use Rattle.rules.specs.Mesh.{no_polygon};
+ghost use Rattle.rules.specs.Merge.{past_side, joined, join_pair};
+ghost use Rattle.records.specs.Layout.{most_corners, polygons_at, polygon_records, Tidy};
+ghost use Rattle.records.specs.Values.{corners_of, polygon_of, Loaded, On};
 ghost use Rattle.polys.specs.Ready.{JoinReady, MergedTo};
 ghost use Rattle.polys.specs.Rows.{wiped, RowsIf, MergeRoom, MergedOver};
 
@@ -26,8 +26,8 @@ fn joined_region(a: u32, b: u32) -> u32
 
 // c with p's corners from past its side e on, written from `at` on.
 fn put_past(c: [u32; 12], at: usize, p: Poly, e: usize) -> [u32; 12]
-    requires { On p e × (at + p.n ≤ mostCorners + 1) }
-    ensures { result ≡ splice c at (pastSide (cornersOf p) e) }
+    requires { On p e × (at + p.n ≤ most_corners + 1) }
+    ensures { result ≡ splice c at (past_side (corners_of p) e) }
 {
     let mut d = c;
     let mut i = 0;
@@ -40,8 +40,8 @@ fn put_past(c: [u32; 12], at: usize, p: Poly, e: usize) -> [u32; 12]
 
 // p and q joined: p from past its side ea, then q from past its side eb.
 pub fn merge_poly_verts(p: Poly, q: Poly, ea: usize, eb: usize) -> Poly
-    requires { On p ea × On q eb × (p.n + q.n ≤ mostCorners + 2) }
-    ensures { Loaded (joined (polygonOf p) (polygonOf q) ea eb) result }
+    requires { On p ea × On q eb × (p.n + q.n ≤ most_corners + 2) }
+    ensures { Loaded (joined (polygon_of p) (polygon_of q) ea eb) result }
 {
     let na = p.n - 1;
     let nb = q.n - 1;
@@ -58,7 +58,7 @@ pub fn merge_poly_verts(p: Poly, q: Poly, ea: usize, eb: usize) -> Poly
 // blank one that of the last.
 pub fn join_pair(work: &mut [u32], o: usize, np: usize, nvp: usize, m: Pair)
     requires { JoinReady work.old o np nvp m }
-    ensures { work.new ≡ splice work.old o (polygonRecords (joinPair (polygonsAt work.old o np) m ++ (noPolygon ∷ []))) }
+    ensures { work.new ≡ splice work.old o (polygon_records (join_pair (polygons_at work.old o np) m ++ (no_polygon ∷ []))) }
 {
     let p = load_at(work, o, np, m.a);
     let q = load_at(work, o, np, m.b);

@@ -2,10 +2,10 @@
 // polygons. A row is made when those behind it are kept, since it looks at their stamps.
 ghost use Rattle.std.specs.Prelude.{◌≡◌, ◌+◌, ◌*◌, ◌≤◌, ◌<◌, length};
 ghost use Rattle.mem.specs.Slice.{splice};
-ghost use Rattle.rules.specs.Merge.{mergeValue};
+ghost use Rattle.rules.specs.Merge.{merge_value};
 ghost use Rattle.laws.specs.Rows.{row_of};
-ghost use Rattle.records.specs.Layout.{verticesAt, polygonsAt};
-ghost use Rattle.polys.specs.Rows.{rowSize, rowWords, rowRecord, row_in, stampIn, RowFits, KeptFrom, Stamped};
+ghost use Rattle.records.specs.Layout.{vertices_at, polygons_at};
+ghost use Rattle.polys.specs.Rows.{row_size, row_words, row_record, row_in, stamp_in, RowFits, KeptFrom, Stamped};
 
 use crate::best::greater;
 use crate::stamp::{are_apart, stamp_from};
@@ -18,7 +18,7 @@ pub const ROW_SIZE: usize = 5;
 
 // The pair of row r of those at ro.
 pub fn row_at(work: &[u32], ro: usize, r: usize) -> Pair
-    requires { ro + r * rowSize + rowSize ≤ length work.now }
+    requires { ro + r * row_size + row_size ≤ length work.now }
     ensures { result ≡ row_in work.now ro r }
 {
     let at = ro + r * ROW_SIZE;
@@ -33,8 +33,8 @@ pub fn row_at(work: &[u32], ro: usize, r: usize) -> Pair
 
 // The stamp of row r of those at ro.
 pub fn stamp_at(work: &[u32], ro: usize, r: usize) -> u32
-    requires { ro + r * rowSize + rowSize ≤ length work.now }
-    ensures { result ≡ stampIn work.now ro r }
+    requires { ro + r * row_size + row_size ≤ length work.now }
+    ensures { result ≡ stamp_in work.now ro r }
 {
     work[ro + r * ROW_SIZE + 4]
 }
@@ -42,7 +42,7 @@ pub fn stamp_at(work: &[u32], ro: usize, r: usize) -> u32
 // The words of a row are written at `at`: the pair m, and the stamp s.
 fn store_row(work: &mut [u32], at: usize, m: Pair, s: u32)
     requires { RowFits work.old at m }
-    ensures { work.new ≡ splice work.old at (rowWords m s) }
+    ensures { work.new ≡ splice work.old at (row_words m s) }
 {
     work[at] = m.length;
     work[at + 1] = m.b as u32;
@@ -65,7 +65,7 @@ pub fn stamped_value(
     b: usize,
 ) -> Pair
     requires { Stamped work.now vo nv o np nvp ro a s × (a < b) × (b < np) }
-    ensures { result ≡ mergeValue (verticesAt work.now vo nv) nvp (polygonsAt work.now o np) a b }
+    ensures { result ≡ merge_value (vertices_at work.now vo nv) nvp (polygons_at work.now o np) a b }
 {
     if are_apart(s, stamp_at(work, ro, b)) {
         return no_pair();
@@ -86,7 +86,7 @@ fn stamped_row(
     s: u32,
 ) -> Pair
     requires { Stamped work.now vo nv o np nvp ro a s }
-    ensures { result ≡ row_of (verticesAt work.now vo nv) nvp (polygonsAt work.now o np) a }
+    ensures { result ≡ row_of (vertices_at work.now vo nv) nvp (polygons_at work.now o np) a }
 {
     let mut m = no_pair();
     let mut b = a + 1;
@@ -109,8 +109,8 @@ pub fn keep_row(
     r: usize,
 )
     requires { KeptFrom work.old vo nv o np nvp ro (r + 1) × (r < np) }
-    ensures { work.new ≡ splice work.old (ro + r * rowSize)
-        (rowRecord (verticesAt work.old vo nv) nvp (polygonsAt work.old o np) r) }
+    ensures { work.new ≡ splice work.old (ro + r * row_size)
+        (row_record (vertices_at work.old vo nv) nvp (polygons_at work.old o np) r) }
 {
     let s = stamp_from(work, o + r * POLYGON_SIZE);
     let m = stamped_row(work, vo, nv, o, np, nvp, ro, r, s);

@@ -1,10 +1,10 @@
 // The kept rows of the merge. They are made from the last one down; after a join those alone are made afresh that it made stale.
 ghost use Rattle.std.specs.Prelude.{◌≡◌, ◌+◌, ◌*◌};
 ghost use Rattle.mem.specs.Slice.{splice};
-ghost use Rattle.rules.specs.Merge.{bestPair};
-ghost use Rattle.laws.specs.Rows.{isMoved, isRival, is_reached, isStale};
-ghost use Rattle.records.specs.Layout.{verticesAt, polygonsAt};
-ghost use Rattle.polys.specs.Rows.{rowSize, rowRecord, RowsReady, KeptFrom, Stamped, Renewable, AllRenewable, RowsKept, RowsIf, RenewIf, KeptIf};
+ghost use Rattle.rules.specs.Merge.{best_pair};
+ghost use Rattle.laws.specs.Rows.{is_moved, is_rival, is_reached, is_stale};
+ghost use Rattle.records.specs.Layout.{vertices_at, polygons_at};
+ghost use Rattle.polys.specs.Rows.{row_size, row_record, RowsReady, KeptFrom, Stamped, Renewable, AllRenewable, RowsKept, RowsIf, RenewIf, KeptIf};
 
 use crate::best::{best_pair, greater};
 use crate::row::{keep_row, row_at, stamp_at, stamped_value};
@@ -26,7 +26,7 @@ fn keep_rows(work: &mut [u32], vo: usize, nv: usize, o: usize, np: usize, nvp: u
 // The best pair of all, from the rows.
 fn best_kept(work: &[u32], vo: usize, nv: usize, o: usize, np: usize, nvp: usize, ro: usize) -> Pair
     requires { KeptFrom work.now vo nv o np nvp ro 0 }
-    ensures { result ≡ bestPair (verticesAt work.now vo nv) nvp (polygonsAt work.now o np) }
+    ensures { result ≡ best_pair (vertices_at work.now vo nv) nvp (polygons_at work.now o np) }
 {
     let mut m = no_pair();
     let mut r = 0;
@@ -39,14 +39,14 @@ fn best_kept(work: &[u32], vo: usize, nv: usize, o: usize, np: usize, nvp: usize
 
 // Whether row r, with the second polygon q, speaks of one that a join of a and b changed or moved: n was the last.
 fn is_moved(r: usize, q: usize, a: usize, b: usize, n: usize) -> bool
-    ensures { result ≡ isMoved r q a b n }
+    ensures { result ≡ is_moved r q a b n }
 {
     ((r == a) | (r == b)) | ((q == a) | ((q == b) | (q == n)))
 }
 
 // Whether a pair is as long as l, or longer.
 fn is_rival(l: u32, m: Pair) -> bool
-    ensures { result ≡ isRival l m }
+    ensures { result ≡ is_rival l m }
 {
     (0 < m.length) & (l <= m.length)
 }
@@ -66,7 +66,7 @@ fn is_reached(
     l: u32,
 ) -> bool
     requires { Stamped work.now vo nv o np nvp ro r s }
-    ensures { result ≡ is_reached (verticesAt work.now vo nv) nvp (polygonsAt work.now o np) r q l }
+    ensures { result ≡ is_reached (vertices_at work.now vo nv) nvp (polygons_at work.now o np) r q l }
 {
     if q <= r {
         return false;
@@ -92,7 +92,7 @@ fn is_stale(
     m: Pair,
 ) -> bool
     requires { Renewable work.now vo nv o np nvp ro a b r }
-    ensures { result ≡ isStale (verticesAt work.now vo nv) nvp (polygonsAt work.now o np) a b r m.length m.b }
+    ensures { result ≡ is_stale (vertices_at work.now vo nv) nvp (polygons_at work.now o np) a b r m.length m.b }
 {
     if is_moved(r, m.b, a, b, np) {
         return true;
@@ -118,8 +118,8 @@ fn renew_row(
     r: usize,
 )
     requires { Renewable work.old vo nv o np nvp ro a b r }
-    ensures { work.new ≡ splice work.old (ro + r * rowSize)
-        (rowRecord (verticesAt work.old vo nv) nvp (polygonsAt work.old o np) r) }
+    ensures { work.new ≡ splice work.old (ro + r * row_size)
+        (row_record (vertices_at work.old vo nv) nvp (polygons_at work.old o np) r) }
 {
     let m = row_at(work, ro, r);
     if is_stale(work, vo, nv, o, np, nvp, ro, a, b, r, m) {
@@ -180,7 +180,7 @@ pub fn best_if(
     kept: bool,
 ) -> Pair
     requires { RowsIf work.now vo nv o np nvp ro kept }
-    ensures { result ≡ bestPair (verticesAt work.now vo nv) nvp (polygonsAt work.now o np) }
+    ensures { result ≡ best_pair (vertices_at work.now vo nv) nvp (polygons_at work.now o np) }
 {
     if kept {
         return best_kept(work, vo, nv, o, np, nvp, ro);

@@ -1,7 +1,7 @@
 // The side that two polygons share. Their words start at `at` and at `bt`.
 ghost use Rattle.std.specs.Prelude.{◌≡◌, ◌&&◌, ◌||◌, eqb};
-ghost use Rattle.rules.specs.Merge.{sharedBy, sharedSide};
-ghost use Rattle.records.specs.Values.{cornersFrom, Stands, CornerOf};
+ghost use Rattle.rules.specs.Merge.{shared_by, shared_side};
+ghost use Rattle.records.specs.Values.{corners_from, Stands, CornerOf};
 
 use records::corner::{corner_from, count_from, end_from};
 use rules::Shared;
@@ -33,7 +33,7 @@ fn is_equal(a: u32, b: u32, c: u32, d: u32) -> bool
 // Side i of the first, and the first side of the second that is equal to it.
 fn shared_by(work: &[u32], at: usize, bt: usize, i: usize) -> Shared
     requires { CornerOf work.now at i × Stands work.now bt }
-    ensures { result ≡ sharedBy (cornersFrom work.now at) (cornersFrom work.now bt) i }
+    ensures { result ≡ shared_by (corners_from work.now at) (corners_from work.now bt) i }
 {
     let a = corner_from(work, at, i);
     let b = end_from(work, at, i);
@@ -57,7 +57,7 @@ fn shared_by(work: &[u32], at: usize, bt: usize, i: usize) -> Shared
 // The last side of the first with an equal one in the second, and the first such in that.
 pub fn shared_side(work: &[u32], at: usize, bt: usize) -> Shared
     requires { Stands work.now at × Stands work.now bt }
-    ensures { result ≡ sharedSide (cornersFrom work.now at) (cornersFrom work.now bt) }
+    ensures { result ≡ shared_side (corners_from work.now at) (corners_from work.now bt) }
 {
     let mut i = count_from(work, at);
     while 0 < i {

@@ -1,14 +1,14 @@
 // A polygon's stamp: a word with a bit for each of its corners. Polygons that share a side have a bit in common.
 ghost use Rattle.std.specs.Prelude.{◌≡◌, eqb};
 ghost use Rattle.std.specs.Int.Bits.{bit_and};
-ghost use Rattle.laws.specs.Stamps.{stampBit, stampOf};
-ghost use Rattle.records.specs.Values.{cornersFrom, Stands};
+ghost use Rattle.laws.specs.Stamps.{stamp_bit, stamp_of};
+ghost use Rattle.records.specs.Values.{corners_from, Stands};
 
 use records::corner::{corner_from, count_from};
 
 // The bit of corner c.
 fn stamp_bit(c: u32) -> u32
-    ensures { result ≡ stampBit c }
+    ensures { result ≡ stamp_bit c }
 {
     1u32 << (c % 32)
 }
@@ -16,7 +16,7 @@ fn stamp_bit(c: u32) -> u32
 // The stamp of the polygon whose words start at `at`.
 pub fn stamp_from(work: &[u32], at: usize) -> u32
     requires { Stands work.now at }
-    ensures { result ≡ stampOf (cornersFrom work.now at) }
+    ensures { result ≡ stamp_of (corners_from work.now at) }
 {
     let n = count_from(work, at);
     let mut s = 0u32;

@@ -2,12 +2,12 @@
 // the two start at `at` and at `bt`.
 ghost use Rattle.std.specs.Prelude.{◌≡◌, ◌<◌};
 ghost use Rattle.rules.specs.Plane.{squared};
-ghost use Rattle.rules.specs.Mesh.{place_of, sideStart, sideEnd};
-ghost use Rattle.rules.specs.Merge.{turnsLeft, mayJoin, noPair, mergeValue};
+ghost use Rattle.rules.specs.Mesh.{place_of, side_start, side_end};
+ghost use Rattle.rules.specs.Merge.{turns_left, may_join, no_pair, merge_value};
 ghost use Rattle.laws.specs.Lists.{All};
 ghost use Rattle.laws.specs.Merge.{Below};
-ghost use Rattle.records.specs.Layout.{verticesAt, polygonsAt, Placed};
-ghost use Rattle.records.specs.Values.{cornersFrom, CornerOf};
+ghost use Rattle.records.specs.Layout.{vertices_at, polygons_at, Placed};
+ghost use Rattle.records.specs.Values.{corners_from, CornerOf};
 ghost use Rattle.polys.specs.Ready.{Ready, Joint, pair_of};
 
 use crate::side::{is_opposite, shared_side};
@@ -21,7 +21,7 @@ use rules::{Pair, Shared};
 // Whether the corner where side i of the one at `at` starts turns left into the one at `bt`, past its side j.
 fn turns_left(work: &[u32], vo: usize, nv: usize, at: usize, bt: usize, i: usize, j: usize) -> bool
     requires { Joint work.now vo nv at bt i j }
-    ensures { result ≡ turnsLeft (verticesAt work.now vo nv) (cornersFrom work.now at) (cornersFrom work.now bt) i j }
+    ensures { result ≡ turns_left (vertices_at work.now vo nv) (corners_from work.now at) (corners_from work.now bt) i j }
 {
     let na = count_from(work, at);
     let nb = count_from(work, bt);
@@ -34,7 +34,7 @@ fn turns_left(work: &[u32], vo: usize, nv: usize, at: usize, bt: usize, i: usize
 // Whether the two can be joined there: the sides run in opposite directions, and both joined corners turn left.
 fn may_join(work: &[u32], vo: usize, nv: usize, at: usize, bt: usize, i: usize, j: usize) -> bool
     requires { Joint work.now vo nv at bt i j }
-    ensures { result ≡ mayJoin (verticesAt work.now vo nv) (cornersFrom work.now at) (cornersFrom work.now bt) i j }
+    ensures { result ≡ may_join (vertices_at work.now vo nv) (corners_from work.now at) (corners_from work.now bt) i j }
 {
     let a = is_opposite(
         corner_from(work, at, i),
@@ -49,8 +49,8 @@ fn may_join(work: &[u32], vo: usize, nv: usize, at: usize, bt: usize, i: usize, 
 
 // The squared length of side i of the one at `at`.
 fn side_length(work: &[u32], vo: usize, nv: usize, at: usize, i: usize) -> u32
-    requires { Placed work.now vo nv × All (Below nv) (cornersFrom work.now at) × CornerOf work.now at i }
-    ensures { result ≡ squared (place_of (verticesAt work.now vo nv) (sideStart (cornersFrom work.now at) i)) (place_of (verticesAt work.now vo nv) (sideEnd (cornersFrom work.now at) i)) }
+    requires { Placed work.now vo nv × All (Below nv) (corners_from work.now at) × CornerOf work.now at i }
+    ensures { result ≡ squared (place_of (vertices_at work.now vo nv) (side_start (corners_from work.now at) i)) (place_of (vertices_at work.now vo nv) (side_end (corners_from work.now at) i)) }
 {
     let a = place_from(work, vo, nv, at, i);
     let b = place_from(work, vo, nv, at, next(i, count_from(work, at)));
@@ -59,7 +59,7 @@ fn side_length(work: &[u32], vo: usize, nv: usize, at: usize, i: usize) -> u32
 
 // No pair.
 pub fn no_pair() -> Pair
-    ensures { result ≡ noPair }
+    ensures { result ≡ no_pair }
 {
     Pair {
         length: 0,
@@ -83,7 +83,7 @@ fn pair_of(
     j: usize,
 ) -> Pair
     requires { Joint work.now vo nv at bt i j }
-    ensures { result ≡ pair_of (verticesAt work.now vo nv) (cornersFrom work.now at) (cornersFrom work.now bt) a b i j }
+    ensures { result ≡ pair_of (vertices_at work.now vo nv) (corners_from work.now at) (corners_from work.now bt) a b i j }
 {
     if may_join(work, vo, nv, at, bt, i, j) {
         return Pair {
@@ -109,7 +109,7 @@ pub fn get_poly_merge_value(
     b: usize,
 ) -> Pair
     requires { Ready work.now vo nv o np nvp × (a < np) × (b < np) }
-    ensures { result ≡ mergeValue (verticesAt work.now vo nv) nvp (polygonsAt work.now o np) a b }
+    ensures { result ≡ merge_value (vertices_at work.now vo nv) nvp (polygons_at work.now o np) a b }
 {
     let at = o + a * POLYGON_SIZE;
     let bt = o + b * POLYGON_SIZE;

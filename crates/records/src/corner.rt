@@ -1,11 +1,11 @@
 // The corners of a polygon, read where it stands in the work buffer: its words start at `at`.
 ghost use Rattle.std.specs.Prelude.{◌≡◌, ◌<◌, length, get_or};
 ghost use Rattle.rules.specs.Plane.{InGrid};
-ghost use Rattle.rules.specs.Mesh.{sideEnd, place_of};
+ghost use Rattle.rules.specs.Mesh.{side_end, place_of};
 ghost use Rattle.laws.specs.Lists.{All};
 ghost use Rattle.laws.specs.Merge.{Below};
-ghost use Rattle.records.specs.Layout.{verticesAt, Placed};
-ghost use Rattle.records.specs.Values.{cornersFrom, Stands, CornerOf};
+ghost use Rattle.records.specs.Layout.{vertices_at, Placed};
+ghost use Rattle.records.specs.Values.{corners_from, Stands, CornerOf};
 
 use crate::polygon::CORNERS_AT;
 use crate::vertex::place_at;
@@ -15,7 +15,7 @@ use rules::Point;
 // How many corners it has.
 pub fn count_from(work: &[u32], at: usize) -> usize
     requires { Stands work.now at }
-    ensures { result ≡ length (cornersFrom work.now at) }
+    ensures { result ≡ length (corners_from work.now at) }
 {
     work[at] as usize
 }
@@ -23,7 +23,7 @@ pub fn count_from(work: &[u32], at: usize) -> usize
 // Corner i: where side i starts.
 pub fn corner_from(work: &[u32], at: usize, i: usize) -> u32
     requires { CornerOf work.now at i }
-    ensures { result ≡ get_or (cornersFrom work.now at) i 0 }
+    ensures { result ≡ get_or (corners_from work.now at) i 0 }
 {
     work[at + CORNERS_AT + i]
 }
@@ -31,15 +31,15 @@ pub fn corner_from(work: &[u32], at: usize, i: usize) -> u32
 // Where side i ends.
 pub fn end_from(work: &[u32], at: usize, i: usize) -> u32
     requires { CornerOf work.now at i }
-    ensures { result ≡ sideEnd (cornersFrom work.now at) i }
+    ensures { result ≡ side_end (corners_from work.now at) i }
 {
     corner_from(work, at, next(i, count_from(work, at)))
 }
 
 // Where corner i stands.
 pub fn place_from(work: &[u32], vo: usize, nv: usize, at: usize, i: usize) -> Point
-    requires { Placed work.now vo nv × All (Below nv) (cornersFrom work.now at) × CornerOf work.now at i }
-    ensures { (result ≡ place_of (verticesAt work.now vo nv) (get_or (cornersFrom work.now at) i 0)) × InGrid result }
+    requires { Placed work.now vo nv × All (Below nv) (corners_from work.now at) × CornerOf work.now at i }
+    ensures { (result ≡ place_of (vertices_at work.now vo nv) (get_or (corners_from work.now at) i 0)) × InGrid result }
 {
     place_at(work, vo, nv, corner_from(work, at, i) as usize)
 }

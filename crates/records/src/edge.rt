@@ -2,7 +2,7 @@
 ghost use Rattle.std.specs.Prelude.{◌≡◌, ◌+◌, ◌*◌, ◌≤◌, ◌<◌, length, get_or};
 ghost use Rattle.mem.specs.Slice.{splice};
 ghost use Rattle.rules.specs.Links.{no_edge};
-ghost use Rattle.records.specs.Layout.{edgeSize, edgeWords, edges_at};
+ghost use Rattle.records.specs.Layout.{edge_size, edge_words, edges_at};
 
 use rules::Edge;
 
@@ -10,7 +10,7 @@ pub const EDGE_SIZE: usize = 6;
 
 // Edge i of the n at o.
 pub fn load_edge(work: &[u32], o: usize, n: usize, i: usize) -> Edge
-    requires { (o + n * edgeSize ≤ length work.now) × (i < n) }
+    requires { (o + n * edge_size ≤ length work.now) × (i < n) }
     ensures { result ≡ get_or (edges_at work.now o n) i no_edge }
 {
     let at = o + i * EDGE_SIZE;
@@ -26,8 +26,8 @@ pub fn load_edge(work: &[u32], o: usize, n: usize, i: usize) -> Edge
 
 // The words from `at` on become those of e.
 pub fn store_edge(work: &mut [u32], at: usize, e: Edge)
-    requires { at + edgeSize ≤ length work.old }
-    ensures { work.new ≡ splice work.old at (edgeWords e) }
+    requires { at + edge_size ≤ length work.old }
+    ensures { work.new ≡ splice work.old at (edge_words e) }
 {
     work[at] = e.low;
     work[at + 1] = e.high;

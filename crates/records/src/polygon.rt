@@ -2,13 +2,13 @@
 // words that are kept for its area.
 ghost use Rattle.std.specs.Prelude.{◌≡◌, [], ◌∷◌, ◌++◌, ◌+◌, ◌*◌, ◌≤◌, ◌<◌, length, get_or};
 ghost use Rattle.mem.specs.Slice.{view, splice};
-ghost use Rattle.rules.specs.Lists.{swapRemove};
+ghost use Rattle.rules.specs.Lists.{swap_remove};
 ghost use Rattle.rules.specs.Plane.{InGrid};
-ghost use Rattle.rules.specs.Mesh.{noPolygon, polygonAt, sideEnd, place_of};
+ghost use Rattle.rules.specs.Mesh.{no_polygon, polygon_at, side_end, place_of};
 ghost use Rattle.laws.specs.Lists.{All};
 ghost use Rattle.laws.specs.Merge.{Below};
-ghost use Rattle.records.specs.Layout.{polygonSize, mostCorners, polygonIn, polygonsAt, polygonRecords, verticesAt, Placed};
-ghost use Rattle.records.specs.Values.{cornersOf, polyWords, toPoly, Loaded, On, Stands, SwapReady};
+ghost use Rattle.records.specs.Layout.{polygon_size, most_corners, polygon_in, polygons_at, polygon_records, vertices_at, Placed};
+ghost use Rattle.records.specs.Values.{corners_of, poly_words, to_poly, Loaded, On, Stands, SwapReady};
 
 use crate::vertex::place_at;
 use plane::ring::next;
@@ -42,7 +42,7 @@ pub struct Poly {
 // The polygon whose words start at `at`.
 pub fn load_poly(work: &[u32], at: usize) -> Poly
     requires { Stands work.now at }
-    ensures { Loaded (polygonIn (view work.now at polygonSize)) result }
+    ensures { Loaded (polygon_in (view work.now at polygon_size)) result }
 {
     let n = work[at] as usize;
     let mut c = [NONE; 12];
@@ -61,8 +61,8 @@ pub fn load_poly(work: &[u32], at: usize) -> Poly
 
 // The words from `at` on become those of the polygon.
 pub fn store_poly(work: &mut [u32], at: usize, p: Poly)
-    requires { (at + polygonSize ≤ length work.old) × (p.n ≤ mostCorners) }
-    ensures { work.new ≡ splice work.old at (polyWords p) }
+    requires { (at + polygon_size ≤ length work.old) × (p.n ≤ most_corners) }
+    ensures { work.new ≡ splice work.old at (poly_words p) }
 {
     work[at] = p.n as u32;
     work[at + 1] = p.region;
@@ -79,16 +79,16 @@ pub fn store_poly(work: &mut [u32], at: usize, p: Poly)
 
 // Polygon i of the np at o.
 pub fn load_at(work: &[u32], o: usize, np: usize, i: usize) -> Poly
-    requires { (o + np * polygonSize ≤ length work.now) × (i < np) × (length (polygonAt (polygonsAt work.now o np) i).corners ≤ mostCorners) }
-    ensures { Loaded (polygonAt (polygonsAt work.now o np) i) result }
+    requires { (o + np * polygon_size ≤ length work.now) × (i < np) × (length (polygon_at (polygons_at work.now o np) i).corners ≤ most_corners) }
+    ensures { Loaded (polygon_at (polygons_at work.now o np) i) result }
 {
     load_poly(work, o + i * POLYGON_SIZE)
 }
 
 // Polygon i of the np at o is written anew.
 pub fn store_at(work: &mut [u32], o: usize, np: usize, i: usize, p: Poly)
-    requires { (o + np * polygonSize ≤ length work.old) × (i < np) × (p.n ≤ mostCorners) }
-    ensures { work.new ≡ splice work.old (o + i * polygonSize) (polyWords p) }
+    requires { (o + np * polygon_size ≤ length work.old) × (i < np) × (p.n ≤ most_corners) }
+    ensures { work.new ≡ splice work.old (o + i * polygon_size) (poly_words p) }
 {
     store_poly(work, o + i * POLYGON_SIZE, p);
 }
@@ -96,7 +96,7 @@ pub fn store_at(work: &mut [u32], o: usize, np: usize, i: usize, p: Poly)
 // Corner i: where side i starts.
 pub fn corner(p: Poly, i: usize) -> u32
     requires { On p i }
-    ensures { result ≡ get_or (cornersOf p) i 0 }
+    ensures { result ≡ get_or (corners_of p) i 0 }
 {
     p.corners[i]
 }
@@ -104,22 +104,22 @@ pub fn corner(p: Poly, i: usize) -> u32
 // Where side i ends.
 pub fn side_end(p: Poly, i: usize) -> u32
     requires { On p i }
-    ensures { result ≡ sideEnd (cornersOf p) i }
+    ensures { result ≡ side_end (corners_of p) i }
 {
     corner(p, next(i, p.n))
 }
 
 // Where corner i of p stands.
 pub fn place_of(work: &[u32], vo: usize, nv: usize, p: Poly, i: usize) -> Point
-    requires { Placed work.now vo nv × All (Below nv) (cornersOf p) × On p i }
-    ensures { (result ≡ place_of (verticesAt work.now vo nv) (get_or (cornersOf p) i 0)) × InGrid result }
+    requires { Placed work.now vo nv × All (Below nv) (corners_of p) × On p i }
+    ensures { (result ≡ place_of (vertices_at work.now vo nv) (get_or (corners_of p) i 0)) × InGrid result }
 {
     place_at(work, vo, nv, corner(p, i) as usize)
 }
 
 // No polygon.
 fn blank() -> Poly
-    ensures { (result ≡ toPoly noPolygon) × (result.n ≤ mostCorners) }
+    ensures { (result ≡ to_poly no_polygon) × (result.n ≤ most_corners) }
 {
     Poly {
         corners: [NONE; 12],
@@ -132,7 +132,7 @@ fn blank() -> Poly
 // Of the np polygons at o, the last takes the place of polygon i, and a blank one that of the last.
 pub fn swap_remove(work: &mut [u32], o: usize, np: usize, i: usize)
     requires { SwapReady work.old o np i }
-    ensures { work.new ≡ splice work.old o (polygonRecords (swapRemove noPolygon (polygonsAt work.old o np) i ++ (noPolygon ∷ []))) }
+    ensures { work.new ≡ splice work.old o (polygon_records (swap_remove no_polygon (polygons_at work.old o np) i ++ (no_polygon ∷ []))) }
 {
     let last = load_at(work, o, np, np - 1);
     store_at(work, o, np, i, last);

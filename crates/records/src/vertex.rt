@@ -3,7 +3,7 @@ ghost use Rattle.std.specs.Prelude.{◌≡◌, ◌+◌, ◌≤◌, ◌<◌, leng
 ghost use Rattle.mem.specs.Slice.{splice};
 ghost use Rattle.rules.specs.Plane.{InGrid};
 ghost use Rattle.rules.specs.Mesh.{place_of};
-ghost use Rattle.records.specs.Layout.{vertexSize, vertexWords, verticesAt, Placed};
+ghost use Rattle.records.specs.Layout.{vertex_size, vertex_words, vertices_at, Placed};
 
 use rules::{Point, Vertex};
 
@@ -14,8 +14,8 @@ pub const MARK_AT: usize = 3;
 
 // The words from `at` on become those of v, with no mark.
 pub fn store_vertex(work: &mut [u32], at: usize, v: Vertex)
-    requires { at + vertexSize ≤ length work.old }
-    ensures { work.new ≡ splice work.old at (vertexWords v 0) }
+    requires { at + vertex_size ≤ length work.old }
+    ensures { work.new ≡ splice work.old at (vertex_words v 0) }
 {
     work[at] = v.x as u32;
     work[at + 1] = v.y as u32;
@@ -27,7 +27,7 @@ pub fn store_vertex(work: &mut [u32], at: usize, v: Vertex)
 // Where vertex k of the nv at vo stands.
 pub fn place_at(work: &[u32], vo: usize, nv: usize, k: usize) -> Point
     requires { Placed work.now vo nv × (k < nv) }
-    ensures { (result ≡ place_of (verticesAt work.now vo nv) k) × InGrid result }
+    ensures { (result ≡ place_of (vertices_at work.now vo nv) k) × InGrid result }
 {
     let at = vo + k * VERTEX_SIZE;
     Point {

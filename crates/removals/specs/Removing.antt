@@ -2,12 +2,12 @@
 use Rattle.std.specs.Prelude.{◌≡◌, List, ◌++◌, ℕ, ◌+◌, ◌-◌, ◌*◌, ◌≤◌, ◌<◌, length, replicate}
 use Rattle.mem.specs.Slice.{splice}
 use Rattle.rules.specs.Lists.{without}
-use Rattle.rules.specs.Mesh.{noPolygon, Mesh, noMesh}
+use Rattle.rules.specs.Mesh.{no_polygon, Mesh, no_mesh}
 use Rattle.rules.specs.Removal as Rules
-use Rattle.rules.specs.Removal.{polygonsLeft, sidesLeft, walk, holeOf}
+use Rattle.rules.specs.Removal.{polygons_left, sides_left, walk, hole_of}
 use Rattle.rules.specs.declared.ChainPoint.{ChainPoint}
 use Rattle.laws.specs.Removal.{Removable}
-use Rattle.records.specs.Layout.{vertexRecords, polygonRecords, pointSize, pointsAt, pointRecords}
+use Rattle.records.specs.Layout.{vertex_records, polygon_records, point_size, points_at, point_records}
 use Rattle.removals.specs.declared.site.Site.{Site}
 use Rattle.removals.specs.declared.site.Counts.{Counts}
 use Rattle.removals.specs.declared.open.Hole.{Hole}
@@ -15,12 +15,12 @@ use Rattle.removals.specs.declared.remove.Removed.{Removed}
 use Rattle.removals.specs.declared.remove.Removed.TheVariants.{Gone, NoEars}
 use Rattle.removals.specs.declared.all.Removals.{Removals}
 use Rattle.removals.specs.declared.all.Removals.TheVariants.{Left, Stuck}
-use Rattle.removals.specs.Site.{meshAt, standing, Stands}
+use Rattle.removals.specs.Site.{mesh_at, standing, Stands}
 
 -- the hole that the n points at q make: r says how many points it has, and with one fewer zeros come in at the end. `count` and `is` fix all
 pub record ClosedTo (w u : List ℕ) (q n r : ℕ) : Type 0 where
-  pub count : r ≡ length (holeOf (pointsAt w q n))
-  pub is : u ≡ splice w q (pointRecords (holeOf (pointsAt w q n)) ++ replicate ((n - r) * pointSize) 0)
+  pub count : r ≡ length (hole_of (points_at w q n))
+  pub is : u ≡ splice w q (point_records (hole_of (points_at w q n)) ++ replicate ((n - r) * point_size) 0)
   pub fewer : r ≤ n
 
 -- ---- the vertex goes, and a hole is left
@@ -29,51 +29,51 @@ pub record ClosedTo (w u : List ℕ) (q n r : ℕ) : Type 0 where
 pub record RemoveReady (w : List ℕ) (s : Site) (n : Counts) (nvp rem : ℕ) : Type 0 where
   pub stands : Stands w s n nvp
   pub below : rem < n.vertices
-  pub may : Removable rem (meshAt w s n).polygons
+  pub may : Removable rem (mesh_at w s n).polygons
 
 -- the hole around the vertex
-unfoldable pub holeAround : ℕ → Mesh → List ChainPoint
-holeAround rem m = holeOf (walk (sidesLeft rem m.polygons)).chain
+unfoldable pub hole_around : ℕ → Mesh → List ChainPoint
+hole_around rem m = hole_of (walk (sides_left rem m.polygons)).chain
 
 -- the buffer w with what is left of the mesh m: blank records in the place of the polygons that went, and the hole's points in the scratch
-unfoldable pub openedIn : List ℕ → Site → ℕ → Mesh → List ℕ
-openedIn w s rem m =
-    let ps = polygonsLeft rem m.polygons in
-    standing w s (vertexRecords (without m.vertices rem) (without m.marks rem))
-    (polygonRecords (ps ++ replicate (length m.polygons - length ps) noPolygon))
-    (pointRecords (holeAround rem m))
+unfoldable pub opened_in : List ℕ → Site → ℕ → Mesh → List ℕ
+opened_in w s rem m =
+    let ps = polygons_left rem m.polygons in
+    standing w s (vertex_records (without m.vertices rem) (without m.marks rem))
+    (polygon_records (ps ++ replicate (length m.polygons - length ps) no_polygon))
+    (point_records (hole_around rem m))
 
 -- `left`, `points` and `is` fix all; the other follows from them, and spares the callers the way there
 pub record OpenedTo (w u : List ℕ) (s : Site) (n : Counts) (rem : ℕ) (r : Hole) : Type 0 where
-  pub left : r.left ≡ length (polygonsLeft rem (meshAt w s n).polygons)
-  pub points : r.points ≡ length (holeAround rem (meshAt w s n))
-  pub is : u ≡ openedIn w s rem (meshAt w s n)
+  pub left : r.left ≡ length (polygons_left rem (mesh_at w s n).polygons)
+  pub points : r.points ≡ length (hole_around rem (mesh_at w s n))
+  pub is : u ≡ opened_in w s rem (mesh_at w s n)
   pub fewer : r.left ≤ n.polygons
 
 -- ---- the hole is filled
 
 -- what the removal answers: how many polygons there are then, or that there was no ear to cut
-unfoldable pub removedTo : Rules.Removed → Removed
-removedTo (Rules.gone m r) = Gone (length m.polygons)
-removedTo Rules.noEars = NoEars
+unfoldable pub removed_to : Rules.Removed → Removed
+removed_to (Rules.gone m r) = Gone (length m.polygons)
+removed_to Rules.no_ears = NoEars
 
 -- and the mesh that stands there then: none if there was no ear to cut
-unfoldable pub meshAfter : Rules.Removed → Mesh
-meshAfter (Rules.gone m r) = m
-meshAfter Rules.noEars = noMesh
+unfoldable pub mesh_after : Rules.Removed → Mesh
+mesh_after (Rules.gone m r) = m
+mesh_after Rules.no_ears = no_mesh
 
 -- ---- all marked vertices are tried
 
 -- how many vertices and polygons a mesh has
-abbrev pub countsOf : Mesh → Counts
-countsOf m = record { vertices = length m.vertices; polygons = length m.polygons }
+abbrev pub counts_of : Mesh → Counts
+counts_of m = record { vertices = length m.vertices; polygons = length m.polygons }
 
 -- what trying all answers: how many vertices and polygons are left, or the vertex whose hole has no ear
-unfoldable pub triedTo : Rules.Removals → Removals
-triedTo (Rules.removed m log) = Left (countsOf m)
-triedTo (Rules.stuckAt i) = Stuck i
+unfoldable pub tried_to : Rules.Removals → Removals
+tried_to (Rules.removed m log) = Left (counts_of m)
+tried_to (Rules.stuck_at i) = Stuck i
 
 -- and the mesh that stands there then: none if a hole has no ear
-unfoldable pub meshLeft : Rules.Removals → Mesh
-meshLeft (Rules.removed m log) = m
-meshLeft (Rules.stuckAt i) = noMesh
+unfoldable pub mesh_left : Rules.Removals → Mesh
+mesh_left (Rules.removed m log) = m
+mesh_left (Rules.stuck_at i) = no_mesh

@@ -1,10 +1,10 @@
 // All marked vertices are tried.
 ghost use Rattle.std.specs.Prelude.{◌≡◌, ◌<◌};
 ghost use Rattle.rules.specs.Removal as Rules;
-ghost use Rattle.records.specs.Layout.{mostCorners};
+ghost use Rattle.records.specs.Layout.{most_corners};
 ghost use Rattle.holes.specs.Verdict.{Tested};
-ghost use Rattle.removals.specs.Site.{meshAt, meshIn, Stands};
-ghost use Rattle.removals.specs.Removing.{triedTo, meshLeft};
+ghost use Rattle.removals.specs.Site.{mesh_at, mesh_in, Stands};
+ghost use Rattle.removals.specs.Removing.{tried_to, mesh_left};
 
 use crate::remove::{Removed, remove_vertex};
 use crate::site::{Counts, Site};
@@ -20,8 +20,8 @@ pub enum Removals {
 
 // Whether vertex i of the mesh at s is marked and can go.
 fn goes(work: &mut [u32], s: Site, n: Counts, i: usize) -> bool
-    requires { Stands work.old s n mostCorners × (i < n.vertices) }
-    ensures { Tested (Rules.goes i (meshAt work.old s n)) work.old result work.new }
+    requires { Stands work.old s n most_corners × (i < n.vertices) }
+    ensures { Tested (Rules.goes i (mesh_at work.old s n)) work.old result work.new }
 {
     if work[s.vertices + i * VERTEX_SIZE + MARK_AT] == 1 {
         return can_remove_vertex(work, s.polygons, n.polygons, s.scratch, i as u32);
@@ -33,8 +33,8 @@ fn goes(work: &mut [u32], s: Site, n: Counts, i: usize) -> bool
 // tried again. With no ear to cut in a hole there is no mesh.
 pub fn remove_all(work: &mut [u32], s: Site, n: Counts, nvp: usize) -> Removals
     requires { Stands work.old s n nvp }
-    ensures answer { result ≡ triedTo (Rules.removeAll nvp (meshAt work.old s n)) }
-    ensures words { work.new ≡ meshIn work.old s (meshLeft (Rules.removeAll nvp (meshAt work.old s n))) }
+    ensures answer { result ≡ tried_to (Rules.remove_all nvp (mesh_at work.old s n)) }
+    ensures words { work.new ≡ mesh_in work.old s (mesh_left (Rules.remove_all nvp (mesh_at work.old s n))) }
 {
     let mut c = Counts {
         vertices: n.vertices,

@@ -1,6 +1,6 @@
 // The chain of a walk becomes a hole.
 ghost use Rattle.std.specs.Prelude.{◌+◌, ◌*◌, ◌≤◌, ◌<◌, length};
-ghost use Rattle.records.specs.Layout.{pointSize};
+ghost use Rattle.records.specs.Layout.{point_size};
 ghost use Rattle.removals.specs.Removing.{ClosedTo};
 
 use records::point::{POINT_SIZE, load_point, store_point};
@@ -9,7 +9,7 @@ use rules::ChainPoint;
 // If the last of the n points at q has the number of the first, it is dropped. The result says how many points the hole
 // has.
 pub fn close_hole(work: &mut [u32], q: usize, n: usize) -> usize
-    requires { (0 < n) × (q + n * pointSize ≤ length work.old) }
+    requires { (0 < n) × (q + n * point_size ≤ length work.old) }
     ensures { ClosedTo work.old work.new q n result }
 {
     let first = load_point(work, q, n, 0);

@@ -1,5 +1,5 @@
 // The vertex goes, and with it the polygons that hold it: a hole is left.
-ghost use Rattle.records.specs.Layout.{mostCorners};
+ghost use Rattle.records.specs.Layout.{most_corners};
 ghost use Rattle.removals.specs.Removing.{RemoveReady, OpenedTo};
 
 use crate::close::close_hole;
@@ -20,7 +20,7 @@ pub struct Hole {
 
 // The vertex goes from the mesh at s, and the points of the hole come into the scratch.
 pub fn open_hole(work: &mut [u32], s: Site, n: Counts, rem: u32) -> Hole
-    requires { RemoveReady work.old s n mostCorners rem }
+    requires { RemoveReady work.old s n most_corners rem }
     ensures { OpenedTo work.old work.new s n rem result }
 {
     let sides = collect_sides(work, s.polygons, n.polygons, s.scratch, rem);

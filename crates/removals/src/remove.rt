@@ -1,10 +1,10 @@
 // A vertex is removed: the hole that it leaves is filled.
 ghost use Rattle.std.specs.Prelude.{◌≡◌, cond, ◌+◌, ◌-◌, ◌*◌, ◌≤◌, ltb, length, replicate};
 ghost use Rattle.mem.specs.Slice.{splice};
-ghost use Rattle.rules.specs.Removal.{removeVertex};
-ghost use Rattle.records.specs.Layout.{vertexSize, polygonSize, pointSize};
-ghost use Rattle.removals.specs.Site.{meshAt, meshIn, Fits};
-ghost use Rattle.removals.specs.Removing.{RemoveReady, removedTo, meshAfter};
+ghost use Rattle.rules.specs.Removal.{remove_vertex};
+ghost use Rattle.records.specs.Layout.{vertex_size, polygon_size, point_size};
+ghost use Rattle.removals.specs.Site.{mesh_at, mesh_in, Fits};
+ghost use Rattle.removals.specs.Removing.{RemoveReady, removed_to, mesh_after};
 
 use crate::open::open_hole;
 use crate::site::{Counts, Site};
@@ -33,8 +33,8 @@ fn greater(a: usize, b: usize) -> usize
 
 // Zeros in the place of the polygons from `from` up to `to`, and of the hole's points.
 fn tidy_up(work: &mut [u32], s: Site, from: usize, to: usize, points: usize)
-    requires { (from ≤ to) × (s.polygons + to * polygonSize ≤ s.scratch) × (s.scratch + points * pointSize ≤ length work.old) }
-    ensures { work.new ≡ splice (splice work.old (s.polygons + from * polygonSize) (replicate ((to - from) * polygonSize) 0)) s.scratch (replicate (points * pointSize) 0) }
+    requires { (from ≤ to) × (s.polygons + to * polygon_size ≤ s.scratch) × (s.scratch + points * point_size ≤ length work.old) }
+    ensures { work.new ≡ splice (splice work.old (s.polygons + from * polygon_size) (replicate ((to - from) * polygon_size) 0)) s.scratch (replicate (points * point_size) 0) }
 {
     fill(
         work,
@@ -47,8 +47,8 @@ fn tidy_up(work: &mut [u32], s: Site, from: usize, to: usize, points: usize)
 
 // Zeros in the place of the mesh, and of the hole's points.
 fn wipe_mesh(work: &mut [u32], s: Site, points: usize)
-    requires { Fits work.old s × (s.scratch + points * pointSize ≤ length work.old) }
-    ensures { work.new ≡ splice (splice (splice work.old s.vertices (replicate (s.v * vertexSize) 0)) s.polygons (replicate (s.t * polygonSize) 0)) s.scratch (replicate (points * pointSize) 0) }
+    requires { Fits work.old s × (s.scratch + points * point_size ≤ length work.old) }
+    ensures { work.new ≡ splice (splice (splice work.old s.vertices (replicate (s.v * vertex_size) 0)) s.polygons (replicate (s.t * polygon_size) 0)) s.scratch (replicate (points * point_size) 0) }
 {
     fill(work, s.vertices, s.v * VERTEX_SIZE, 0);
     fill(work, s.polygons, s.t * POLYGON_SIZE, 0);
@@ -58,8 +58,8 @@ fn wipe_mesh(work: &mut [u32], s: Site, points: usize)
 // The vertex goes from the mesh at s, and the hole is filled. With no ear to cut there is no mesh.
 pub fn remove_vertex(work: &mut [u32], s: Site, n: Counts, rem: u32, nvp: usize) -> Removed
     requires { RemoveReady work.old s n nvp rem }
-    ensures answer { result ≡ removedTo (removeVertex nvp rem (meshAt work.old s n)) }
-    ensures words { work.new ≡ meshIn work.old s (meshAfter (removeVertex nvp rem (meshAt work.old s n))) }
+    ensures answer { result ≡ removed_to (remove_vertex nvp rem (mesh_at work.old s n)) }
+    ensures words { work.new ≡ mesh_in work.old s (mesh_after (remove_vertex nvp rem (mesh_at work.old s n))) }
 {
     let h = open_hole(work, s, n, rem);
     let at = s.polygons + h.left * POLYGON_SIZE;

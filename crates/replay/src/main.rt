@@ -1,14 +1,14 @@
 // Runs recorded jobs again, and writes the meshes. Their answers, which the file `stdout` has, were given by the Rust;
 // docs/COMPARISON.md says how they were made. A file of data/ has sheets, each with an empty line behind it.
 ghost use Rattle.std.specs.Prelude.{◌≡◌, ◌<◌, length};
-ghost use Rattle.replay.specs.Sheets.{isGap, EndsAt};
+ghost use Rattle.replay.specs.Sheets.{is_gap, EndsAt};
 
 use libc::STDOUT_FILENO;
 
 // Whether an empty line ends at i.
 fn is_gap(text: &[u8], i: usize) -> bool
     requires { (0 < i) × (i < length text.now) }
-    ensures { result ≡ isGap text.now i }
+    ensures { result ≡ is_gap text.now i }
 {
     (text[i] == b'\n') & (text[i - 1] == b'\n')
 }

@@ -9,12 +9,12 @@ use Rattle.rules.specs.Build.{Outcome, refused, built, outcome}
 use Rattle.rules.specs.Exits.{exits}
 use Rattle.rules.specs.Examples.{room}
 use Rattle.rules.specs.Lines.{ascii, lf}
-use Rattle.rules.specs.Handed.{vertexCount, polygonCount, meshIn, cornerWord, linkWord, all_of, any_of, firstFault, blocksAgree, withinLimits, areFew}
-use Rattle.rules.specs.Handed.{buffersHold, cornersHold, namesBack, linkHolds, linksHold, orFault, soundness, faultNumber, faultSecond}
-use Rattle.rules.specs.Checker.{Claim, openLink, portalHolds, portalsHold, areaHolds, soundVerdict, verdict}
-use Rattle.rules.specs.Checker.{verdictNumber, verdictSecond, handedOn, ownClaim}
-use Rattle.rules.specs.CheckSheet.{rowWords, needWhole, needMesh, placeNumbers, cornerNumbers, linkNumbers, withPlace, withPolygon, readPolygons}
-use Rattle.rules.specs.CheckSheet.{readPlaces, noMeshYet, readMesh, readClaim, acceptedName, verdictText, checkText}
+use Rattle.rules.specs.Handed.{vertex_count, polygon_count, mesh_in, corner_word, link_word, all_of, any_of, first_fault, blocks_agree, within_limits, are_few}
+use Rattle.rules.specs.Handed.{buffers_hold, corners_hold, names_back, link_holds, links_hold, or_fault, soundness, fault_number, fault_second}
+use Rattle.rules.specs.Checker.{Claim, open_link, portal_holds, portals_hold, area_holds, sound_verdict, verdict}
+use Rattle.rules.specs.Checker.{verdict_number, verdict_second, handed_on, own_claim}
+use Rattle.rules.specs.CheckSheet.{row_words, need_whole, need_mesh, place_numbers, corner_numbers, link_numbers, with_place, with_polygon, read_polygons}
+use Rattle.rules.specs.CheckSheet.{read_places, no_mesh_yet, read_mesh, read_claim, accepted_name, verdict_text, check_text}
 
 -- ---- what an example says
 
@@ -29,7 +29,7 @@ empty nvp total = mesh [] [] [] 0 nvp total
 -- what a build, in buffers longer than they need be, hands on
 unfoldable pub own_of : Job → Outcome → Claim
 own_of j (refused r) = empty 0 (pos 0)
-own_of j (built m ls log) = ownClaim j (exits j (room 2 j)) (length m.polygons) (length m.vertices)
+own_of j (built m ls log) = own_claim j (exits j (room 2 j)) (length m.polygons) (length m.vertices)
 
 -- lines as a text
 unfoldable pub text : List String → List ℕ
@@ -46,10 +46,10 @@ pub data Checking : Type 0 where
   prints : List String → String → Checking
 
 unfoldable pub CheckHolds : Checking → Type 0
-CheckHolds (says m n k) = verdictNumber (verdict m) ∷ verdictSecond (verdict m) ∷ [] ≡ n ∷ k ∷ []
+CheckHolds (says m n k) = verdict_number (verdict m) ∷ verdict_second (verdict m) ∷ [] ≡ n ∷ k ∷ []
 CheckHolds (hands j m) = own_of j (outcome j (room 2 j)) ≡ m
-CheckHolds (few k n t) = areFew k n ≡ t
-CheckHolds (prints ts u) = checkText (text ts) ≡ text (u ∷ [])
+CheckHolds (few k n t) = are_few k n ≡ t
+CheckHolds (prints ts u) = check_text (text ts) ≡ text (u ∷ [])
 
 infixr 20 ◌&◌
 pub data AllCheck : List Checking → Type 0 where
@@ -262,9 +262,9 @@ checkings =
     []
 
 -- each row holds
-pub all-check : AllCheck checkings
-unfolding rules room vertexCount polygonCount meshIn cornerWord linkWord all_of any_of firstFault blocksAgree withinLimits areFew buffersHold cornersHold namesBack linkHolds linksHold orFault soundness faultNumber faultSecond openLink portalHolds portalsHold areaHolds soundVerdict verdict verdictNumber verdictSecond handedOn ownClaim own_of text rowWords needWhole needMesh placeNumbers cornerNumbers linkNumbers withPlace withPolygon readPolygons readPlaces noMeshYet readMesh readClaim acceptedName verdictText checkText CheckHolds
-all-check =
+pub all_check : AllCheck checkings
+unfolding rules room vertex_count polygon_count mesh_in corner_word link_word all_of any_of first_fault blocks_agree within_limits are_few buffers_hold corners_hold names_back link_holds links_hold or_fault soundness fault_number fault_second open_link portal_holds portals_hold area_holds sound_verdict verdict verdict_number verdict_second handed_on own_claim own_of text row_words need_whole need_mesh place_numbers corner_numbers link_numbers with_place with_polygon read_polygons read_places no_mesh_yet read_mesh read_claim accepted_name verdict_text check_text CheckHolds
+all_check =
     refl & refl & refl & refl & refl & refl & refl & refl & refl & refl & refl & refl & refl & refl & refl & refl & refl & refl & refl & refl &
     refl & refl & refl & refl & refl & refl & refl & refl & refl & refl & refl & refl & refl & refl & refl & refl & refl & refl & refl & refl &
     refl & refl & refl & refl & refl & refl & refl & refl & refl & refl & refl & refl & refl & refl & refl & refl & refl & refl & refl & refl &

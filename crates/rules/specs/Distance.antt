@@ -34,45 +34,45 @@ unfoldable pub clamped : Float → Float
 clamped t = cond (lt t nought) nought (cond (lt unit t) unit t)
 
 -- math.rs divides t by d only if d is above 0
-unfoldable pub scaledDown : Float → Float → Float
-scaledDown t d = cond (lt nought d) (t ⊘ d) t
+unfoldable pub scaled_down : Float → Float → Float
+scaled_down t d = cond (lt nought d) (t ⊘ d) t
 
 -- x * x + z * z
-abbrev pub lengthSquared : Float → Float → Float
-lengthSquared x z = (x ⊗ x) ⊕ (z ⊗ z)
+abbrev pub length_squared : Float → Float → Float
+length_squared x z = (x ⊗ x) ⊕ (z ⊗ z)
 
 -- the point (ptx, ptz), the segment from (px, pz) to (qx, qz), all as f32; math.rs's names
-unfoldable pub toSegment : Float → Float → Float → Float → Float → Float → Float
-unfolding clamped scaledDown
-toSegment ptx ptz px pz qx qz =
+unfoldable pub to_segment : Float → Float → Float → Float → Float → Float → Float
+unfolding clamped scaled_down
+to_segment ptx ptz px pz qx qz =
     let pqx = qx ⊖ px in
     let pqz = qz ⊖ pz in
     let dtx = ptx ⊖ px in
     let dtz = ptz ⊖ pz in
-    let d = lengthSquared pqx pqz in
-    let t = clamped (scaledDown ((pqx ⊗ dtx) ⊕ (pqz ⊗ dtz)) d) in
-    lengthSquared ((px ⊕ (t ⊗ pqx)) ⊖ ptx) ((pz ⊕ (t ⊗ pqz)) ⊖ ptz)
+    let d = length_squared pqx pqz in
+    let t = clamped (scaled_down ((pqx ⊗ dtx) ⊕ (pqz ⊗ dtz)) d) in
+    length_squared ((px ⊕ (t ⊗ pqx)) ⊖ ptx) ((pz ⊕ (t ⊗ pqz)) ⊖ ptz)
 
 -- a 16-bit number as f32
 abbrev pub as_float : ℕ → Float
 as_float n = of_int binary32 (pos n)
 
 -- from the point pt to the segment from p to q
-unfoldable pub distanceSquared : Point → Point → Point → Float
-unfolding toSegment
-distanceSquared pt p q = toSegment (as_float pt.x) (as_float pt.z) (as_float p.x) (as_float p.z) (as_float q.x) (as_float q.z)
+unfoldable pub distance_squared : Point → Point → Point → Float
+unfolding to_segment
+distance_squared pt p q = to_segment (as_float pt.x) (as_float pt.z) (as_float p.x) (as_float p.z) (as_float q.x) (as_float q.z)
 
 -- ---- the two exact cases, proved in crate `laws`
 
 -- a point of 16-bit numbers
 pub record Short (p : Point) : Type 0 where
-  pub x-short : p.x < 2 ^ 16
-  pub z-short : p.z < 2 ^ 16
+  pub x_short : p.x < 2 ^ 16
+  pub z_short : p.z < 2 ^ 16
 
 -- "A point equal to the segment's first end is at distance +0"
 abbrev pub FirstEnd : Type 0
-FirstEnd = (p q : Point) → Short p → Short q → distanceSquared p p q ≡ nought
+FirstEnd = (p q : Point) → Short p → Short q → distance_squared p p q ≡ nought
 
 -- "(0,3) to (0,0)-(4,0) gives 9."
 abbrev pub Nine : Type 0
-Nine = distanceSquared (record { x = 0; z = 3 }) (record { x = 0; z = 0 }) (record { x = 4; z = 0 }) ≡ as_float 9
+Nine = distance_squared (record { x = 0; z = 3 }) (record { x = 0; z = 0 }) (record { x = 4; z = 0 }) ≡ as_float 9

@@ -7,19 +7,19 @@ use Rattle.mem.specs.Packed.{packed}
 use Rattle.rules.specs.Computing.{rules}
 use Rattle.rules.specs.Plane.{area, squared, intersect}
 use Rattle.rules.specs.Ears.{key_of}
-use Rattle.rules.specs.Weld.{weldAll, bucket}
+use Rattle.rules.specs.Weld.{weld_all, bucket}
 use Rattle.rules.specs.Mesh.{Polygon}
 use Rattle.rules.specs.Removal.{Removal}
 use Rattle.rules.specs.Links.{none}
 use Rattle.rules.specs.Job.{Job}
-use Rattle.rules.specs.Replies.{numberOfReply, second_of, thirdOf}
-use Rattle.rules.specs.Checks.{Lent, leastLengths, Checked, passed, refusal, checkV}
-use Rattle.rules.specs.Build.{Outcome, refused, built, weldHeight, outcome, replyOf}
+use Rattle.rules.specs.Replies.{number_of_reply, second_of, third_of}
+use Rattle.rules.specs.Checks.{Lent, least_lengths, Checked, passed, refusal, check_v}
+use Rattle.rules.specs.Build.{Outcome, refused, built, weld_height, outcome, reply_of}
 use Rattle.rules.specs.Exits.{exits}
-use Rattle.rules.specs.Areas.{meshArea}
-use Rattle.rules.specs.Boxes.{boxesApart, areApart}
+use Rattle.rules.specs.Areas.{mesh_area}
+use Rattle.rules.specs.Boxes.{boxes_apart, are_apart}
 use Rattle.rules.specs.Outlines.{turned, arc}
-use Rattle.rules.specs.Units.{perInch, millimetres}
+use Rattle.rules.specs.Units.{per_inch, millimetres}
 use Rattle.rules.specs.Distance.{unit}
 use Rattle.rules.specs.Lines.{ascii}
 use Rattle.rules.specs.Sheet.{text_of}
@@ -41,17 +41,17 @@ pub record Seen : Type 0 where
   pub doubled : ℤ
   pub removals : List Removal
 
-unfoldable pub numbersOf : Reply → List ℕ
-numbersOf r = numberOfReply r ∷ second_of r ∷ thirdOf r ∷ []
+unfoldable pub numbers_of : Reply → List ℕ
+numbers_of r = number_of_reply r ∷ second_of r ∷ third_of r ∷ []
 
 unfoldable pub seen : Outcome → Seen
-seen (refused r) = record { reply = numbersOf (replyOf (refused r)); vertices = []; polygons = []; links = []; doubled = pos 0; removals = [] }
+seen (refused r) = record { reply = numbers_of (reply_of (refused r)); vertices = []; polygons = []; links = []; doubled = pos 0; removals = [] }
 seen (built m ls log) = record {
-  reply = numbersOf (replyOf (built m ls log));
+  reply = numbers_of (reply_of (built m ls log));
   vertices = m.vertices;
   polygons = m.polygons;
   links = ls;
-  doubled = meshArea m;
+  doubled = mesh_area m;
   removals = log;
 }
 
@@ -61,12 +61,12 @@ pub record Ended : Type 0 where
   pub buffers : Lent
 
 unfoldable pub ended : Job → Lent → Ended
-ended j b = record { reply = numbersOf (replyOf (outcome j b)); buffers = exits j b }
+ended j b = record { reply = numbers_of (reply_of (outcome j b)); buffers = exits j b }
 
 -- buffers with so many words more than the least, each of them 9
 unfoldable pub room : ℕ → Job → Lent
 room more j =
-    let nines : ℕ → List ℕ = λ k. replicate (get_or (leastLengths j) k 0 + more) 9 in
+    let nines : ℕ → List ℕ = λ k. replicate (get_or (least_lengths j) k 0 + more) 9 in
     record { vertices = nines 0; polygons = nines 1; neighbours = nines 2; regions = nines 3; codes = nines 4; flags = nines 5; work = nines 6 }
 
 -- corners, and their doubled area
@@ -106,13 +106,13 @@ pub data Example : Type 0 where
 unfoldable pub Holds : Example → Type 0
 Holds (builds j s) = seen (outcome j (room 0 j)) ≡ s
 Holds (leaves j b r e) = ended j b ≡ record { reply = r; buffers = e }
-Holds (welds vs ns) = (weldAll weldHeight vs [] (record { vertices = []; marks = []; numbers = [] })).numbers ≡ ns
+Holds (welds vs ns) = (weld_all weld_height vs [] (record { vertices = []; marks = []; numbers = [] })).numbers ≡ ns
 Holds (keys a b s k) = squared a b ∷ key_of a b ∷ [] ≡ s ∷ k ∷ []
 Holds (stands x z k) = bucket x z ≡ k
-Holds (checks j c) = checkV j ≡ c
+Holds (checks j c) = check_v j ≡ c
 Holds (measures c x) = millimetres c ≡ x
 Holds (prints s t) = text_of (ascii s) ≡ ascii t
-Holds (parts a b c d ts) = boxesApart a b c d ∷ areApart a b c d ∷ intersect a b c d ∷ [] ≡ ts
+Holds (parts a b c d ts) = boxes_apart a b c d ∷ are_apart a b c d ∷ intersect a b c d ∷ [] ≡ ts
 Holds (turns o k m) = outline o.corners ∷ outline (turned o.corners k) ∷ [] ≡ o ∷ record { corners = m; doubled = o.doubled } ∷ []
 Holds (reverses o m) = outline o.corners ∷ outline (reverse o.corners) ∷ [] ≡ o ∷ record { corners = m; doubled = neg_ℤ o.doubled } ∷ []
 Holds (cuts l i j a b) =
@@ -225,8 +225,8 @@ corners4 = four (at 0 0) (at 0 4) (at 4 4) (at 4 0)
 abbrev high : ℕ → List (List ℕ)
 high x = three (v 0 0) (v 0 4) (v x 4)
 
-abbrev onePlace : ℕ → Vertex
-onePlace y = record { x = 9; y = y; z = 9 }
+abbrev one_place : ℕ → Vertex
+one_place y = record { x = 9; y = y; z = 9 }
 
 -- its hole has no ear once the flagged vertex goes
 abbrev tangled : List (List ℕ)
@@ -272,7 +272,7 @@ examples =
     (cleared corners4 (poly (four 1 2 3 0) ∷ []) (four none none none none ∷ []) (minus 32)
     (opened 1 (p 0 2) (p 0 4) (p 0 0) ∷ [])) ∷
     -- K9 "At one x,z, y = 0, 2, 4, 3, 2 weld to 0, 0, 1, 1, 1."
-    welds (onePlace 0 ∷ onePlace 2 ∷ onePlace 4 ∷ onePlace 3 ∷ onePlace 2 ∷ []) (0 ∷ 0 ∷ 1 ∷ 1 ∷ 1 ∷ []) ∷
+    welds (one_place 0 ∷ one_place 2 ∷ one_place 4 ∷ one_place 3 ∷ one_place 2 ∷ []) (0 ∷ 0 ∷ 1 ∷ 1 ∷ 1 ∷ []) ∷
     -- K10 "Squared length 65,536 has key 0."
     keys (p 0 0) (p 256 0) 65536 0 ∷
     -- K11 "Four equal points: polygons 0 0 0 twice."
@@ -332,7 +332,7 @@ examples =
     -- reply 7 counts skipped contours
     builds (contours 6 (of 1 7 (v 0 0 ∷ v 0 4 ∷ []) ∷ of 1 7 reversed ∷ [])) (reply 7 1) ∷
     -- R3: a height of 3 is too much; and the bucket drops every bit above 32, and then keeps 12
-    welds (onePlace 0 ∷ onePlace 3 ∷ []) (0 ∷ 1 ∷ []) ∷
+    welds (one_place 0 ∷ one_place 3 ∷ []) (0 ∷ 1 ∷ []) ∷
     stands 32767 32767 2462 ∷
     -- R1: a diagonal that a side touches is stopped; here it is the diagonal's end that lies on the side
     builds (contour 3 0 (v 0 0 ∷ v 0 2 ∷ v 1 0 ∷ v 0 0 ∷ v 0 1 ∷ []))
@@ -437,7 +437,7 @@ examples =
     -- 8: the hole of vertex 3 has no ear
     builds (contour 3 0 tangled) (reply 8 3) ∷
     -- the cell size: one inch, and one millimetre
-    measures (Inches unit) perInch ∷
+    measures (Inches unit) per_inch ∷
     measures (Millimetres unit) unit ∷
     -- the sheet: document 01's sheet
     prints "unit\tmm\ncell\t500\t250\nnvp\t6\ngrid\t4\t4\t0\ncontour\t1\t7\t4\nv\t0\t0\t0\t0\nv\t0\t0\t4\t0\nv\t4\t0\t4\t0\nv\t4\t0\t0\t0\n"
@@ -516,7 +516,7 @@ examples =
 
 -- each row holds
 pub all_hold : AllHold examples
-unfolding rules numbersOf seen ended room outline Holds mul of_bits
+unfolding rules numbers_of seen ended room outline Holds mul of_bits
 all_hold =
     refl & refl & refl & refl & refl & refl & refl & refl & refl & refl & refl & refl & refl & refl & refl & refl & refl & refl & refl & refl &
     refl & refl & refl & refl & refl & refl & refl & refl & refl & refl & refl & refl & refl & refl & refl & refl & refl & refl & refl & refl &

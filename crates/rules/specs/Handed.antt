@@ -3,11 +3,11 @@
 use Rattle.std.specs.Prelude.{◌≡◌, Bool, true, false, not, ◌&&◌, ◌||◌, cond, ◌≢◌, ◌↔◌, List, [], ℕ, ◌+◌, ◌*◌, ◌/◌, ◌≤◌, ◌<◌, eqb, leb, ltb, length, get_or}
 use Rattle.mem.specs.Loops.{over}
 use Rattle.rules.specs.Lists.{when, or_else}
-use Rattle.rules.specs.Plane.{onPlane, InGrid}
-use Rattle.rules.specs.Weld.{noVertex}
-use Rattle.rules.specs.Mesh.{Polygon, polygonAt, sideStart, sideEnd}
+use Rattle.rules.specs.Plane.{on_plane, InGrid}
+use Rattle.rules.specs.Weld.{no_vertex}
+use Rattle.rules.specs.Mesh.{Polygon, polygon_at, side_start, side_end}
 use Rattle.rules.specs.Links.{none}
-use Rattle.rules.specs.Checks.{Lent, vertexStride, isHigh}
+use Rattle.rules.specs.Checks.{Lent, vertex_stride, is_high}
 use Rattle.rules.specs.Exits.{Stored, decoded}
 use Rattle.rules.specs.declared.Found.{Found}
 use Rattle.rules.specs.declared.Found.TheVariants.{At, Nothing}
@@ -25,30 +25,30 @@ pub record Handed : Type 0 where
   pub polygons : List ℕ
   pub links : List ℕ
 
--- how many vertices there are, of `vertexStride` words each, and how many polygons, of nvp words each
-unfoldable pub vertexCount : Handed → ℕ
-vertexCount m = length m.vertices / vertexStride
+-- how many vertices there are, of `vertex_stride` words each, and how many polygons, of nvp words each
+unfoldable pub vertex_count : Handed → ℕ
+vertex_count m = length m.vertices / vertex_stride
 
-unfoldable pub polygonCount : Handed → ℕ
-polygonCount m = length m.polygons / m.nvp
+unfoldable pub polygon_count : Handed → ℕ
+polygon_count m = length m.polygons / m.nvp
 
 -- the mesh that the numbers are, read as a build's buffers are read
-abbrev pub buffersOf : Handed → Lent
-buffersOf m = record { vertices = m.vertices; polygons = m.polygons; neighbours = m.links; regions = []; codes = []; flags = []; work = [] }
+abbrev pub buffers_of : Handed → Lent
+buffers_of m = record { vertices = m.vertices; polygons = m.polygons; neighbours = m.links; regions = []; codes = []; flags = []; work = [] }
 
-unfoldable pub meshIn : Handed → Stored
-meshIn m = decoded m.nvp (polygonCount m) (vertexCount m) (buffersOf m)
+unfoldable pub mesh_in : Handed → Stored
+mesh_in m = decoded m.nvp (polygon_count m) (vertex_count m) (buffers_of m)
 
 -- word k of polygon i's corners, and of its links, the unused ones too
-unfoldable pub cornerWord : Handed → ℕ → ℕ → ℕ
-cornerWord m i k = get_or m.polygons (i * m.nvp + k) 0
+unfoldable pub corner_word : Handed → ℕ → ℕ → ℕ
+corner_word m i k = get_or m.polygons (i * m.nvp + k) 0
 
-unfoldable pub linkWord : Handed → ℕ → ℕ → ℕ
-linkWord m i k = get_or m.links (i * m.nvp + k) 0
+unfoldable pub link_word : Handed → ℕ → ℕ → ℕ
+link_word m i k = get_or m.links (i * m.nvp + k) 0
 
 -- the corners of polygon i of a stored mesh, and the link of its side j
-abbrev pub cornersAt : Stored → ℕ → List ℕ
-cornersAt s i = (polygonAt s.polygons i).corners
+abbrev pub corners_at : Stored → ℕ → List ℕ
+corners_at s i = (polygon_at s.polygons i).corners
 
 abbrev pub link_at : List (List ℕ) → ℕ → ℕ → ℕ
 link_at ls i j = get_or (get_or ls i []) j none
@@ -61,123 +61,123 @@ all_of test a n = over true ◌&&◌ test a n
 unfoldable pub any_of : (ℕ → Bool) → ℕ → ℕ → Bool
 any_of test a n = over false ◌||◌ test a n
 
-unfoldable pub firstFault : (ℕ → Bool) → ℕ → Found
-firstFault good n = over Nothing or_else (λ i. when (not (good i)) i) 0 n
+unfoldable pub first_fault : (ℕ → Bool) → ℕ → Found
+first_fault good n = over Nothing or_else (λ i. when (not (good i)) i) 0 n
 
 -- ---- the refusals' tests, in their order
 
 -- 40: "buffers that don't agree in count": whole vertices, whole polygons, and a link for each word of a polygon
-unfoldable pub blocksAgree : Handed → Bool
-blocksAgree m =
-    eqb (length m.vertices) (vertexCount m * vertexStride)
-    && (eqb (length m.polygons) (polygonCount m * m.nvp) && eqb (length m.links) (length m.polygons))
+unfoldable pub blocks_agree : Handed → Bool
+blocks_agree m =
+    eqb (length m.vertices) (vertex_count m * vertex_stride)
+    && (eqb (length m.polygons) (polygon_count m * m.nvp) && eqb (length m.links) (length m.polygons))
 
 -- "or nvp, x or z outside 01's limits": nvp 3 to 12; x and z of every vertex, used or not, at most 32,767
-unfoldable pub withinLimits : Handed → Bool
-withinLimits m =
-    leb 3 m.nvp && (leb m.nvp 12 && all_of (λ k. not (isHigh (get_or (meshIn m).vertices k noVertex))) 0 (vertexCount m))
+unfoldable pub within_limits : Handed → Bool
+within_limits m =
+    leb 3 m.nvp && (leb m.nvp 12 && all_of (λ k. not (is_high (get_or (mesh_in m).vertices k no_vertex))) 0 (vertex_count m))
 
 -- "or over 65,535 vertices or polygons"
-unfoldable pub areFew : ℕ → ℕ → Bool
-areFew vertices polygons = leb vertices 65535 && leb polygons 65535
+unfoldable pub are_few : ℕ → ℕ → Bool
+are_few vertices polygons = leb vertices 65535 && leb polygons 65535
 
-unfoldable pub buffersHold : Handed → Bool
-buffersHold m = blocksAgree m && (areFew (vertexCount m) (polygonCount m) && withinLimits m)
+unfoldable pub buffers_hold : Handed → Bool
+buffers_hold m = blocks_agree m && (are_few (vertex_count m) (polygon_count m) && within_limits m)
 
 -- 41: "all corners are in range, each polygon has 3 to nvp and 65,535 after them". Corners are what stands before the first 65,535, and never more than nvp
-unfoldable pub cornersHold : Handed → ℕ → Bool
-cornersHold m i =
-    let n = length (cornersAt (meshIn m) i) in
-    leb 3 n && (all_of (λ k. ltb (cornerWord m i k) (vertexCount m)) 0 n && all_of (λ k. eqb (cornerWord m i k) none) n m.nvp)
+unfoldable pub corners_hold : Handed → ℕ → Bool
+corners_hold m i =
+    let n = length (corners_at (mesh_in m) i) in
+    leb 3 n && (all_of (λ k. ltb (corner_word m i k) (vertex_count m)) 0 n && all_of (λ k. eqb (corner_word m i k) none) n m.nvp)
 
 -- "a side b to a that names it back": side q of a polygon with corners cs and links ls runs from b to a, and its link is i
-unfoldable pub namesBack : List ℕ → List ℕ → ℕ → ℕ → ℕ → ℕ → Bool
-namesBack cs ls a b i q = eqb (sideStart cs q) b && (eqb (sideEnd cs q) a && eqb (get_or ls q none) i)
+unfoldable pub names_back : List ℕ → List ℕ → ℕ → ℕ → ℕ → ℕ → Bool
+names_back cs ls a b i q = eqb (side_start cs q) b && (eqb (side_end cs q) a && eqb (get_or ls q none) i)
 
 -- the most that the link of an open side may be: R7's last portal
-abbrev pub lastPortal : ℕ
-lastPortal = 65539
+abbrev pub last_portal : ℕ
+last_portal = 65539
 
 -- 42: "each link of a side a to b names another polygon with a side b to a that names it back". "A link above 65,539, or one to no polygon of the mesh"
 -- are faults; 65,535 to 65,539 say that the side is open
-unfoldable pub linkHolds : Stored → ℕ → ℕ → Bool
-linkHolds s i j =
-    let a = sideStart (cornersAt s i) j in
-    let b = sideEnd (cornersAt s i) j in
+unfoldable pub link_holds : Stored → ℕ → ℕ → Bool
+link_holds s i j =
+    let a = side_start (corners_at s i) j in
+    let b = side_end (corners_at s i) j in
     let l = link_at s.links i j in
     cond (ltb l none)
-    (ltb l (length s.polygons) && (not (eqb l i) && any_of (namesBack (cornersAt s l) (get_or s.links l []) a b i) 0 (length (cornersAt s l))))
-    (leb l lastPortal)
+    (ltb l (length s.polygons) && (not (eqb l i) && any_of (names_back (corners_at s l) (get_or s.links l []) a b i) 0 (length (corners_at s l))))
+    (leb l last_portal)
 
 -- "and a link past the last corner other than 65,535"
-unfoldable pub linksHold : Handed → ℕ → Bool
-linksHold m i =
-    let n = length (cornersAt (meshIn m) i) in
-    all_of (linkHolds (meshIn m) i) 0 n && all_of (λ k. eqb (linkWord m i k) none) n m.nvp
+unfoldable pub links_hold : Handed → ℕ → Bool
+links_hold m i =
+    let n = length (corners_at (mesh_in m) i) in
+    all_of (link_holds (mesh_in m) i) 0 n && all_of (λ k. eqb (link_word m i k) none) n m.nvp
 
 -- ---- 40 to 42
 
 -- the first polygon at fault, or what the rest says
-unfoldable pub orFault : (ℕ → Fault) → Found → Soundness → Soundness
-orFault fault (At i) rest = Broken (fault i)
-orFault fault Nothing rest = rest
+unfoldable pub or_fault : (ℕ → Fault) → Found → Soundness → Soundness
+or_fault fault (At i) rest = Broken (fault i)
+or_fault fault Nothing rest = rest
 
 -- "Refusals, in this order: 40 ..; 41 corners, 42 links, .. each with the first polygon at fault": each is looked for in the whole mesh before the next.
 -- "Later asks on meshes give 40 to 42 first"
 unfoldable pub soundness : Handed → Soundness
-soundness m = elim (buffersHold m) [
-  | true ↦ orFault BadCorners (firstFault (cornersHold m) (polygonCount m)) (orFault BadLinks (firstFault (linksHold m) (polygonCount m)) Sound)
+soundness m = elim (buffers_hold m) [
+  | true ↦ or_fault BadCorners (first_fault (corners_hold m) (polygon_count m)) (or_fault BadLinks (first_fault (links_hold m) (polygon_count m)) Sound)
   | false ↦ Broken BadBuffers
 ]
 
 -- a fault's number, and its second number: "with 0", "with the first polygon at fault"
-unfoldable pub faultNumber : Fault → ℕ
-faultNumber BadBuffers = 40
-faultNumber (BadCorners i) = 41
-faultNumber (BadLinks i) = 42
+unfoldable pub fault_number : Fault → ℕ
+fault_number BadBuffers = 40
+fault_number (BadCorners i) = 41
+fault_number (BadLinks i) = 42
 
-unfoldable pub faultSecond : Fault → ℕ
-faultSecond BadBuffers = 0
-faultSecond (BadCorners i) = i
-faultSecond (BadLinks i) = i
+unfoldable pub fault_second : Fault → ℕ
+fault_second BadBuffers = 0
+fault_second (BadCorners i) = i
+fault_second (BadLinks i) = i
 
 -- ---- the sentences, with no order and no test: a mesh is sound exactly if they hold. Proved in crate `laws`: `SoundExactly`
 
 pub record GoodBuffers (m : Handed) : Type 0 where
-  pub vertices : length m.vertices ≡ vertexCount m * vertexStride
-  pub polygons : length m.polygons ≡ polygonCount m * m.nvp
+  pub vertices : length m.vertices ≡ vertex_count m * vertex_stride
+  pub polygons : length m.polygons ≡ polygon_count m * m.nvp
   pub links : length m.links ≡ length m.polygons
-  pub few-vertices : vertexCount m ≤ 65535
-  pub few-polygons : polygonCount m ≤ 65535
-  pub nvp-low : 3 ≤ m.nvp
-  pub nvp-high : m.nvp ≤ 12
-  pub grid : (k : ℕ) → k < vertexCount m → InGrid (onPlane (get_or (meshIn m).vertices k noVertex))
+  pub few_vertices : vertex_count m ≤ 65535
+  pub few_polygons : polygon_count m ≤ 65535
+  pub nvp_low : 3 ≤ m.nvp
+  pub nvp_high : m.nvp ≤ 12
+  pub grid : (k : ℕ) → k < vertex_count m → InGrid (on_plane (get_or (mesh_in m).vertices k no_vertex))
 
 -- of polygon i
 pub record GoodCorners (m : Handed) (i : ℕ) : Type 0 where
-  pub long : 3 ≤ length (cornersAt (meshIn m) i)
-  pub inside : (k : ℕ) → k < length (cornersAt (meshIn m) i) → cornerWord m i k < vertexCount m
-  pub after : (k : ℕ) → length (cornersAt (meshIn m) i) ≤ k → k < m.nvp → cornerWord m i k ≡ none
+  pub long : 3 ≤ length (corners_at (mesh_in m) i)
+  pub inside : (k : ℕ) → k < length (corners_at (mesh_in m) i) → corner_word m i k < vertex_count m
+  pub after : (k : ℕ) → length (corners_at (mesh_in m) i) ≤ k → k < m.nvp → corner_word m i k ≡ none
 
 -- the link of side j of polygon i, of polygons ps with links ls: it names another polygon, with a side that runs the other way and names it back
 pub record NamedBack (ps : List Polygon) (ls : List (List ℕ)) (i j : ℕ) : Type 0 where
   pub side : ℕ
   pub there : link_at ls i j < length ps
   pub other : link_at ls i j ≢ i
-  pub within : side < length (polygonAt ps (link_at ls i j)).corners
-  pub starts : sideStart (polygonAt ps (link_at ls i j)).corners side ≡ sideEnd (polygonAt ps i).corners j
-  pub ends : sideEnd (polygonAt ps (link_at ls i j)).corners side ≡ sideStart (polygonAt ps i).corners j
+  pub within : side < length (polygon_at ps (link_at ls i j)).corners
+  pub starts : side_start (polygon_at ps (link_at ls i j)).corners side ≡ side_end (polygon_at ps i).corners j
+  pub ends : side_end (polygon_at ps (link_at ls i j)).corners side ≡ side_start (polygon_at ps i).corners j
   pub back : link_at ls (link_at ls i j) side ≡ i
 
 pub record GoodLinks (m : Handed) (i : ℕ) : Type 0 where
-  pub named : (j : ℕ) → j < length (cornersAt (meshIn m) i) → link_at (meshIn m).links i j < none → NamedBack (meshIn m).polygons (meshIn m).links i j
-  pub most : (j : ℕ) → j < length (cornersAt (meshIn m) i) → link_at (meshIn m).links i j ≤ lastPortal
-  pub after : (k : ℕ) → length (cornersAt (meshIn m) i) ≤ k → k < m.nvp → linkWord m i k ≡ none
+  pub named : (j : ℕ) → j < length (corners_at (mesh_in m) i) → link_at (mesh_in m).links i j < none → NamedBack (mesh_in m).polygons (mesh_in m).links i j
+  pub most : (j : ℕ) → j < length (corners_at (mesh_in m) i) → link_at (mesh_in m).links i j ≤ last_portal
+  pub after : (k : ℕ) → length (corners_at (mesh_in m) i) ≤ k → k < m.nvp → link_word m i k ≡ none
 
 pub record Consistent (m : Handed) : Type 0 where
   pub buffers : GoodBuffers m
-  pub corners : (i : ℕ) → i < polygonCount m → GoodCorners m i
-  pub links : (i : ℕ) → i < polygonCount m → GoodLinks m i
+  pub corners : (i : ℕ) → i < polygon_count m → GoodCorners m i
+  pub links : (i : ℕ) → i < polygon_count m → GoodLinks m i
 
 abbrev pub SoundExactly : Type 0
 SoundExactly = (m : Handed) → (soundness m ≡ Sound) ↔ Consistent m

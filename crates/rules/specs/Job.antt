@@ -18,35 +18,35 @@ pub record Job : Type 0 where
   pub numbers : List ℕ
 
 -- how many numbers a vertex of a job has
-abbrev pub jobStride : ℕ
-jobStride = 4
+abbrev pub job_stride : ℕ
+job_stride = 4
 
 -- vertex k of the job's numbers ns, and its flag
-unfoldable pub vertexAt : List ℕ → ℕ → Vertex
-vertexAt ns k = record { x = get_or ns (k * jobStride) 0; y = get_or ns (k * jobStride + 1) 0; z = get_or ns (k * jobStride + 2) 0 }
+unfoldable pub vertex_at : List ℕ → ℕ → Vertex
+vertex_at ns k = record { x = get_or ns (k * job_stride) 0; y = get_or ns (k * job_stride + 1) 0; z = get_or ns (k * job_stride + 2) 0 }
 
-unfoldable pub flagAt : List ℕ → ℕ → ℕ
-flagAt ns k = get_or ns (k * jobStride + 3) 0
+unfoldable pub flag_at : List ℕ → ℕ → ℕ
+flag_at ns k = get_or ns (k * job_stride + 3) 0
 
 -- the n vertices of a contour from the vertex `first` on, and their flags
-unfoldable pub contourVertices : List ℕ → ℕ → ℕ → List Vertex
-contourVertices ns first n = tab (λ k. vertexAt ns (first + k)) n
+unfoldable pub contour_vertices : List ℕ → ℕ → ℕ → List Vertex
+contour_vertices ns first n = tab (λ k. vertex_at ns (first + k)) n
 
-unfoldable pub contourFlags : List ℕ → ℕ → ℕ → List ℕ
-contourFlags ns first n = tab (λ k. flagAt ns (first + k)) n
+unfoldable pub contour_flags : List ℕ → ℕ → ℕ → List ℕ
+contour_flags ns first n = tab (λ k. flag_at ns (first + k)) n
 
 -- the sum of f over the contours' lengths
-unfoldable pub sumOver : (ℕ → ℕ) → List ℕ → ℕ
-sumOver f ls = over 0 ◌+◌ (λ c. f (get_or ls c 0)) 0 (length ls)
+unfoldable pub sum_over : (ℕ → ℕ) → List ℕ → ℕ
+sum_over f ls = over 0 ◌+◌ (λ c. f (get_or ls c 0)) 0 (length ls)
 
 -- how many vertices the lengths say there are, "skipped contours counted"
-unfoldable pub countAll : Job → ℕ
-countAll j = sumOver (λ n. n) j.lengths
+unfoldable pub count_all : Job → ℕ
+count_all j = sum_over (λ n. n) j.lengths
 
 -- "V sums the lengths of contours of 3 or more vertices"
-unfoldable pub countV : Job → ℕ
-countV j = sumOver (λ n. cond (leb 3 n) n 0) j.lengths
+unfoldable pub count_v : Job → ℕ
+count_v j = sum_over (λ n. cond (leb 3 n) n 0) j.lengths
 
 -- "T sums length minus 2 over the same"
 unfoldable pub count_t : Job → ℕ
-count_t j = sumOver (λ n. cond (leb 3 n) (n - 2) 0) j.lengths
+count_t j = sum_over (λ n. cond (leb 3 n) (n - 2) 0) j.lengths

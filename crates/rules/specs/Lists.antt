@@ -36,8 +36,8 @@ module _ {A : Type 0} where
   without l i = take i l ++ drop (i + 1) l
 
   -- the list without the element at i, whose place the last one takes (d is what a place past the end holds)
-  unfoldable pub swapRemove : A → List A → ℕ → List A
-  swapRemove d l i = take (length l - 1) (set l i (get_or l (length l - 1) d))
+  unfoldable pub swap_remove : A → List A → ℕ → List A
+  swap_remove d l i = take (length l - 1) (set l i (get_or l (length l - 1) d))
 
 -- how often n stands in the list
 unfoldable pub count : ℕ → List ℕ → ℕ

@@ -10,13 +10,13 @@ abbrev pub origin : Point
 origin = record { x = 0; z = 0 }
 
 -- where a vertex stands on the plane
-abbrev pub onPlane : Vertex → Point
-onPlane v = record { x = v.x; z = v.z }
+abbrev pub on_plane : Vertex → Point
+on_plane v = record { x = v.x; z = v.z }
 
 -- the points of a job that is not refused: "x or z above 32,767" is reply 3
 pub record InGrid (p : Point) : Type 0 where
-  pub x-small : p.x ≤ 32767
-  pub z-small : p.z ≤ 32767
+  pub x_small : p.x ≤ 32767
+  pub z_small : p.z ≤ 32767
 
 -- "D(a,b,c) = (b.x−a.x)(c.z−a.z) − (c.x−a.x)(b.z−a.z)"
 unfoldable pub D : Point → Point → Point → ℤ
@@ -36,12 +36,12 @@ area (p ∷ []) = pos 0
 area (p ∷ (q ∷ l)) = fan p q l
 
 -- "its sign counts, and left means below zero"
-unfoldable pub isLeft : Point → Point → Point → Bool
-isLeft a b c = lt_z (D a b c) (pos 0)
+unfoldable pub is_left : Point → Point → Point → Bool
+is_left a b c = lt_z (D a b c) (pos 0)
 
 -- D(a,b,c) ≤ 0
-unfoldable pub isLeftOn : Point → Point → Point → Bool
-isLeftOn a b c = le_z (D a b c) (pos 0)
+unfoldable pub is_left_on : Point → Point → Point → Bool
+is_left_on a b c = le_z (D a b c) (pos 0)
 
 abbrev pub is_zero : ℤ → Bool
 is_zero (pos n) = eqb n 0
@@ -60,10 +60,10 @@ unfoldable pub squared : Point → Point → ℕ
 squared a b = apart a.x b.x * apart a.x b.x + apart a.z b.z * apart a.z b.z
 
 -- "Crossing: four nonzero D, the signs unlike on both.": the segments a b and c d
-unfoldable pub intersectProp : Point → Point → Point → Point → Bool
-intersectProp a b c d =
+unfoldable pub intersect_prop : Point → Point → Point → Point → Bool
+intersect_prop a b c d =
     not (collinear a b c || collinear a b d || collinear c d a || collinear c d b)
-    && (not (beq (isLeft a b c) (isLeft a b d)) && not (beq (isLeft c d a) (isLeft c d b)))
+    && (not (beq (is_left a b c) (is_left a b d)) && not (beq (is_left c d a) (is_left c d b)))
 
 -- c lies between a and b, in either order, the ends included
 unfoldable pub within : ℕ → ℕ → ℕ → Bool
@@ -76,4 +76,4 @@ between a b c = collinear a b c && cond (eqb a.x b.x) (within a.z b.z c.z) (with
 
 -- the segments a b and c d cross or touch: each end of the one is tried on the other
 unfoldable pub intersect : Point → Point → Point → Point → Bool
-intersect a b c d = intersectProp a b c d || (between a b c || between a b d || between c d a || between c d b)
+intersect a b c d = intersect_prop a b c d || (between a b c || between a b d || between c d a || between c d b)

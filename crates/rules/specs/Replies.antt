@@ -6,47 +6,47 @@ use Rattle.rules.specs.declared.Reply.{Reply}
 use Rattle.rules.specs.declared.Reply.TheVariants.{Built, Refused}
 
 -- the table's "No."
-unfoldable pub refusalNumber : Refusal → ℕ
-refusalNumber (BadCornerLimit n) = 1
-refusalNumber CountsDisagree = 2
-refusalNumber (HighCoordinate k) = 3
-refusalNumber (BadFlag k) = 4
-refusalNumber (TooManyVertices n) = 5
-refusalNumber (ShortBuffer k) = 6
-refusalNumber (NoEarInContour c) = 7
-refusalNumber (NoEarInHole i) = 8
+unfoldable pub refusal_number : Refusal → ℕ
+refusal_number (BadCornerLimit n) = 1
+refusal_number CountsDisagree = 2
+refusal_number (HighCoordinate k) = 3
+refusal_number (BadFlag k) = 4
+refusal_number (TooManyVertices n) = 5
+refusal_number (ShortBuffer k) = 6
+refusal_number (NoEarInContour c) = 7
+refusal_number (NoEarInHole i) = 8
 
 -- the table's "Second number"
-unfoldable pub refusalSecond : Refusal → ℕ
-refusalSecond (BadCornerLimit n) = n
-refusalSecond CountsDisagree = 0
-refusalSecond (HighCoordinate k) = k
-refusalSecond (BadFlag k) = k
-refusalSecond (TooManyVertices n) = n
-refusalSecond (ShortBuffer k) = k
-refusalSecond (NoEarInContour c) = c
-refusalSecond (NoEarInHole i) = i
+unfoldable pub refusal_second : Refusal → ℕ
+refusal_second (BadCornerLimit n) = n
+refusal_second CountsDisagree = 0
+refusal_second (HighCoordinate k) = k
+refusal_second (BadFlag k) = k
+refusal_second (TooManyVertices n) = n
+refusal_second (ShortBuffer k) = k
+refusal_second (NoEarInContour c) = c
+refusal_second (NoEarInHole i) = i
 
 -- "Replies 1 to 6 write nothing."
-unfoldable pub writesNothing : Refusal → Bool
-writesNothing (BadCornerLimit n) = true
-writesNothing CountsDisagree = true
-writesNothing (HighCoordinate k) = true
-writesNothing (BadFlag k) = true
-writesNothing (TooManyVertices n) = true
-writesNothing (ShortBuffer k) = true
-writesNothing (NoEarInContour c) = false
-writesNothing (NoEarInHole i) = false
+unfoldable pub writes_nothing : Refusal → Bool
+writes_nothing (BadCornerLimit n) = true
+writes_nothing CountsDisagree = true
+writes_nothing (HighCoordinate k) = true
+writes_nothing (BadFlag k) = true
+writes_nothing (TooManyVertices n) = true
+writes_nothing (ShortBuffer k) = true
+writes_nothing (NoEarInContour c) = false
+writes_nothing (NoEarInHole i) = false
 
 -- a reply's three numbers: 0 with the "polygon count (and, only here, a third number: the vertex count; otherwise 0)"
-unfoldable pub numberOfReply : Reply → ℕ
-numberOfReply (Built n k) = 0
-numberOfReply (Refused r) = refusalNumber r
+unfoldable pub number_of_reply : Reply → ℕ
+number_of_reply (Built n k) = 0
+number_of_reply (Refused r) = refusal_number r
 
 unfoldable pub second_of : Reply → ℕ
 second_of (Built n k) = n
-second_of (Refused r) = refusalSecond r
+second_of (Refused r) = refusal_second r
 
-unfoldable pub thirdOf : Reply → ℕ
-thirdOf (Built n k) = k
-thirdOf (Refused r) = 0
+unfoldable pub third_of : Reply → ℕ
+third_of (Built n k) = k
+third_of (Refused r) = 0

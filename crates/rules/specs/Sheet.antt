@@ -1,84 +1,84 @@
 -- The job sheet: the text that is printed, as a function of the bytes that are read. Definitions only.
 use Rattle.std.specs.Prelude.{Bool, true, false, ◌||◌, cond, List, [], ◌∷◌, ◌++◌, ℕ, zero, suc, ◌+◌, ltb, length, drop, get_or}
 use Rattle.mem.specs.Loops.{over}
-use Rattle.rules.specs.Lines.{ascii, tabByte, lf, isSameText, Line, lines_of, Numbers, numbers, malformed, numbersOf, cell, signedCell, numberLine}
-use Rattle.rules.specs.Weld.{noVertex}
-use Rattle.rules.specs.Mesh.{Polygon, polygonAt}
-use Rattle.rules.specs.Job.{Job, countAll}
-use Rattle.rules.specs.Checks.{leastLengths, check}
-use Rattle.rules.specs.Replies.{refusalNumber, refusalSecond}
-use Rattle.rules.specs.Build.{Outcome, refused, built, afterCheck}
-use Rattle.rules.specs.Exits.{vertexWords, Stored}
-use Rattle.rules.specs.Areas.{storedArea}
+use Rattle.rules.specs.Lines.{ascii, tab_byte, lf, is_same_text, Line, lines_of, Numbers, numbers, malformed, numbers_of, cell, signed_cell, number_line}
+use Rattle.rules.specs.Weld.{no_vertex}
+use Rattle.rules.specs.Mesh.{Polygon, polygon_at}
+use Rattle.rules.specs.Job.{Job, count_all}
+use Rattle.rules.specs.Checks.{least_lengths, check}
+use Rattle.rules.specs.Replies.{refusal_number, refusal_second}
+use Rattle.rules.specs.Build.{Outcome, refused, built, after_check}
+use Rattle.rules.specs.Exits.{vertex_words, Stored}
+use Rattle.rules.specs.Areas.{stored_area}
 use Rattle.rules.specs.declared.Vertex.{Vertex}
 
 -- ---- the words of a sheet, and its limits
 
-unfoldable pub unitName : List ℕ
-unitName = ascii "unit"
+unfoldable pub unit_name : List ℕ
+unit_name = ascii "unit"
 
-unfoldable pub mmName : List ℕ
-mmName = ascii "mm"
+unfoldable pub mm_name : List ℕ
+mm_name = ascii "mm"
 
-unfoldable pub inName : List ℕ
-inName = ascii "in"
+unfoldable pub in_name : List ℕ
+in_name = ascii "in"
 
-unfoldable pub cellName : List ℕ
-cellName = ascii "cell"
+unfoldable pub cell_name : List ℕ
+cell_name = ascii "cell"
 
-unfoldable pub nvpName : List ℕ
-nvpName = ascii "nvp"
+unfoldable pub nvp_name : List ℕ
+nvp_name = ascii "nvp"
 
-unfoldable pub gridName : List ℕ
-gridName = ascii "grid"
+unfoldable pub grid_name : List ℕ
+grid_name = ascii "grid"
 
-unfoldable pub contourName : List ℕ
-contourName = ascii "contour"
+unfoldable pub contour_name : List ℕ
+contour_name = ascii "contour"
 
-unfoldable pub vName : List ℕ
-vName = ascii "v"
+unfoldable pub v_name : List ℕ
+v_name = ascii "v"
 
-unfoldable pub refusedName : List ℕ
-refusedName = ascii "refused"
+unfoldable pub refused_name : List ℕ
+refused_name = ascii "refused"
 
-unfoldable pub meshName : List ℕ
-meshName = ascii "mesh"
+unfoldable pub mesh_name : List ℕ
+mesh_name = ascii "mesh"
 
-unfoldable pub pName : List ℕ
-pName = ascii "p"
+unfoldable pub p_name : List ℕ
+p_name = ascii "p"
 
-unfoldable pub nName : List ℕ
-nName = ascii "n"
+unfoldable pub n_name : List ℕ
+n_name = ascii "n"
 
 -- "over 65,536 bytes"
-abbrev pub bytesMost : ℕ
-bytesMost = 65536
+abbrev pub bytes_most : ℕ
+bytes_most = 65536
 
 -- "at most 65,535"
-abbrev pub numberMost : ℕ
-numberMost = 65535
+abbrev pub number_most : ℕ
+number_most = 65535
 
 -- "cells 1 to 16,777,216 thousandths"
-abbrev pub cellLeast : ℕ
-cellLeast = 1
+abbrev pub cell_least : ℕ
+cell_least = 1
 
-abbrev pub cellMost : ℕ
-cellMost = 16777216
+abbrev pub cell_most : ℕ
+cell_most = 16777216
 
 -- "an area code above 255 is malformed"
-abbrev pub codeMost : ℕ
-codeMost = 255
+abbrev pub code_most : ℕ
+code_most = 255
 
 -- "a contour line that is the 33rd or brings the declared lengths above 96"
-abbrev pub contoursMost : ℕ
-contoursMost = 32
+abbrev pub contours_most : ℕ
+contours_most = 32
 
-abbrev pub declaredMost : ℕ
-declaredMost = 96
+abbrev pub declared_most : ℕ
+declared_most = 96
 
 -- the heading lines: unit, cell, nvp, grid
-abbrev pub headingLines : ℕ
-headingLines = 4
+abbrev pub heading_lines : ℕ
+heading_lines = 4
 
 -- ---- what is read
 
@@ -109,29 +109,29 @@ need k malformed f = bad 22 k
 need k (numbers ns) f = f ns
 
 -- "21 (the first isn't a whole `unit` line with mm or in)": a unit has to be there, and it goes on with whether it is inches
-unfoldable pub needUnit : {A : Type 0} → Line → (Bool → Read A) → Read A
-needUnit (a ∷ (b ∷ [])) f =
-    elim (isSameText a unitName) [
+unfoldable pub need_unit : {A : Type 0} → Line → (Bool → Read A) → Read A
+need_unit (a ∷ (b ∷ [])) f =
+    elim (is_same_text a unit_name) [
       | false ↦ bad 21 1
-      | true ↦ elim (isSameText b mmName) [
+      | true ↦ elim (is_same_text b mm_name) [
         | true ↦ f false
-        | false ↦ elim (isSameText b inName) [
+        | false ↦ elim (is_same_text b in_name) [
           | true ↦ f true
           | false ↦ bad 21 1
         ]
       ]
     ]
-needUnit [] f = bad 21 1
-needUnit (a ∷ []) f = bad 21 1
-needUnit (a ∷ (b ∷ (c ∷ cs))) f = bad 21 1
+need_unit [] f = bad 21 1
+need_unit (a ∷ []) f = bad 21 1
+need_unit (a ∷ (b ∷ (c ∷ cs))) f = bad 21 1
 
 -- "24 (a contour line that is the 33rd or brings the declared lengths above 96)": a contour of length n, behind the contours of j
-unfoldable pub tooMany : Job → ℕ → Bool
-tooMany j n = ltb contoursMost (length j.lengths + 1) || ltb declaredMost (countAll j + n)
+unfoldable pub too_many : Job → ℕ → Bool
+too_many j n = ltb contours_most (length j.lengths + 1) || ltb declared_most (count_all j + n)
 
 -- "contour is region, area code, length"
-unfoldable pub withContour : List ℕ → Sheet → Sheet
-withContour ns s = record {
+unfoldable pub with_contour : List ℕ → Sheet → Sheet
+with_contour ns s = record {
   inches = s.inches;
   size = s.size;
   height = s.height;
@@ -148,8 +148,8 @@ withContour ns s = record {
 }
 
 -- a vertex is x, y, z and flag
-unfoldable pub withVertex : List ℕ → Sheet → Sheet
-withVertex ns s = record {
+unfoldable pub with_vertex : List ℕ → Sheet → Sheet
+with_vertex ns s = record {
   inches = s.inches;
   size = s.size;
   height = s.height;
@@ -166,26 +166,26 @@ withVertex ns s = record {
 }
 
 -- the numbers of a contour line, and of a vertex line
-unfoldable pub contourNumbers : Line → Numbers
-contourNumbers l = numbersOf contourName 0 (numberMost ∷ codeMost ∷ numberMost ∷ []) l
+unfoldable pub contour_numbers : Line → Numbers
+contour_numbers l = numbers_of contour_name 0 (number_most ∷ code_most ∷ number_most ∷ []) l
 
-unfoldable pub vertexNumbers : Line → Numbers
-vertexNumbers l = numbersOf vName 0 (numberMost ∷ numberMost ∷ numberMost ∷ numberMost ∷ []) l
+unfoldable pub vertex_numbers : Line → Numbers
+vertex_numbers l = numbers_of v_name 0 (number_most ∷ number_most ∷ number_most ∷ number_most ∷ []) l
 
 -- the lines behind the heading. The first of them is line k; `due` vertices of the last contour are still to come. "after 22 on one line"
 unfoldable pub read_body : ℕ → ℕ → List Line → Sheet → Read Sheet
 read_body k zero [] s = taken s
 read_body k (suc due) [] s = bad 22 k
 read_body k zero (l ∷ ls) s =
-    need k (contourNumbers l) (λ ns. elim (tooMany s.job (get_or ns 2 0)) [
+    need k (contour_numbers l) (λ ns. elim (too_many s.job (get_or ns 2 0)) [
       | true ↦ bad 24 k
-      | false ↦ read_body (k + 1) (get_or ns 2 0) ls (withContour ns s)
+      | false ↦ read_body (k + 1) (get_or ns 2 0) ls (with_contour ns s)
     ])
-read_body k (suc due) (l ∷ ls) s = need k (vertexNumbers l) (λ ns. read_body (k + 1) due ls (withVertex ns s))
+read_body k (suc due) (l ∷ ls) s = need k (vertex_numbers l) (λ ns. read_body (k + 1) due ls (with_vertex ns s))
 
 -- the sheet of a heading, before its contours: "grid is w, h, border"
-unfoldable pub noContours : Bool → List ℕ → List ℕ → List ℕ → Sheet
-noContours inches cells nvp grid = record {
+unfoldable pub no_contours : Bool → List ℕ → List ℕ → List ℕ → Sheet
+no_contours inches cells nvp grid = record {
   inches = inches;
   size = get_or cells 0 0;
   height = get_or cells 1 0;
@@ -202,80 +202,80 @@ noContours inches cells nvp grid = record {
 }
 
 -- the numbers of the heading lines behind the first
-unfoldable pub cellNumbers : Line → Numbers
-cellNumbers l = numbersOf cellName cellLeast (cellMost ∷ cellMost ∷ []) l
+unfoldable pub cell_numbers : Line → Numbers
+cell_numbers l = numbers_of cell_name cell_least (cell_most ∷ cell_most ∷ []) l
 
-unfoldable pub nvpNumbers : Line → Numbers
-nvpNumbers l = numbersOf nvpName 0 (numberMost ∷ []) l
+unfoldable pub nvp_numbers : Line → Numbers
+nvp_numbers l = numbers_of nvp_name 0 (number_most ∷ []) l
 
-unfoldable pub gridNumbers : Line → Numbers
-gridNumbers l = numbersOf gridName 0 (numberMost ∷ numberMost ∷ numberMost ∷ []) l
+unfoldable pub grid_numbers : Line → Numbers
+grid_numbers l = numbers_of grid_name 0 (number_most ∷ number_most ∷ number_most ∷ []) l
 
 -- "then at the first bad line": all lines, in their order; first the heading's
-unfoldable pub readHeading : List Line → Read Sheet
-readHeading ls =
-    needUnit (line_at ls 0) (λ inches.
-    need 2 (cellNumbers (line_at ls 1)) (λ cells.
-    need 3 (nvpNumbers (line_at ls 2)) (λ nvp.
-    need 4 (gridNumbers (line_at ls 3)) (λ grid.
-    taken (noContours inches cells nvp grid)))))
+unfoldable pub read_heading : List Line → Read Sheet
+read_heading ls =
+    need_unit (line_at ls 0) (λ inches.
+    need 2 (cell_numbers (line_at ls 1)) (λ cells.
+    need 3 (nvp_numbers (line_at ls 2)) (λ nvp.
+    need 4 (grid_numbers (line_at ls 3)) (λ grid.
+    taken (no_contours inches cells nvp grid)))))
 
-unfoldable pub readSheet : List Line → Read Sheet
-readSheet ls = and_then (readHeading ls) (read_body (headingLines + 1) 0 (drop headingLines ls))
+unfoldable pub read_sheet : List Line → Read Sheet
+read_sheet ls = and_then (read_heading ls) (read_body (heading_lines + 1) 0 (drop heading_lines ls))
 
 -- ---- what is built
 
 -- what the job comes to, in buffers that are just long enough
-unfoldable pub outcomeOf : Job → Outcome
-outcomeOf j = afterCheck j (check j (leastLengths j))
+unfoldable pub outcome_of : Job → Outcome
+outcome_of j = after_check j (check j (least_lengths j))
 
 -- ---- what is printed
 
 -- "`refused→number→line`"
-unfoldable pub refusedText : ℕ → ℕ → List ℕ
-refusedText number line = numberLine refusedName (number ∷ line ∷ [])
+unfoldable pub refused_text : ℕ → ℕ → List ℕ
+refused_text number line = number_line refused_name (number ∷ line ∷ [])
 
-unfoldable pub unitLine : Bool → List ℕ
-unitLine inches = unitName ++ (tabByte ∷ (cond inches inName mmName ++ (lf ∷ [])))
+unfoldable pub unit_line : Bool → List ℕ
+unit_line inches = unit_name ++ (tab_byte ∷ (cond inches in_name mm_name ++ (lf ∷ [])))
 
 -- "`mesh` giving vertices, polygons and doubled area", which is that of the stored polygons
-unfoldable pub meshLine : Stored → List ℕ
-meshLine m = meshName ++ (cell (length m.vertices) ++ (cell (length m.polygons) ++ (signedCell (storedArea m) ++ (lf ∷ []))))
+unfoldable pub mesh_line : Stored → List ℕ
+mesh_line m = mesh_name ++ (cell (length m.vertices) ++ (cell (length m.polygons) ++ (signed_cell (stored_area m) ++ (lf ∷ []))))
 
-unfoldable pub vertexLine : Vertex → List ℕ
-vertexLine v = numberLine vName (vertexWords v)
+unfoldable pub vertex_line : Vertex → List ℕ
+vertex_line v = number_line v_name (vertex_words v)
 
 -- "each polygon's `p` line followed by its `n` line, used corners only": region, area code and corners, and then the links
-unfoldable pub polygonLines : Polygon → List ℕ → List ℕ
-polygonLines p links = numberLine pName (p.region ∷ p.code ∷ p.corners) ++ numberLine nName links
+unfoldable pub polygon_lines : Polygon → List ℕ → List ℕ
+polygon_lines p links = number_line p_name (p.region ∷ p.code ∷ p.corners) ++ number_line n_name links
 
-unfoldable pub verticesText : List Vertex → List ℕ
-verticesText vs = over [] ◌++◌ (λ k. vertexLine (get_or vs k noVertex)) 0 (length vs)
+unfoldable pub vertices_text : List Vertex → List ℕ
+vertices_text vs = over [] ◌++◌ (λ k. vertex_line (get_or vs k no_vertex)) 0 (length vs)
 
-unfoldable pub polygonsText : List Polygon → List (List ℕ) → List ℕ
-polygonsText ps links = over [] ◌++◌ (λ i. polygonLines (polygonAt ps i) (get_or links i [])) 0 (length ps)
+unfoldable pub polygons_text : List Polygon → List (List ℕ) → List ℕ
+polygons_text ps links = over [] ◌++◌ (λ i. polygon_lines (polygon_at ps i) (get_or links i [])) 0 (length ps)
 
-unfoldable pub meshText : Stored → List ℕ
-meshText m = meshLine m ++ (verticesText m.vertices ++ polygonsText m.polygons m.links)
+unfoldable pub mesh_text : Stored → List ℕ
+mesh_text m = mesh_line m ++ (vertices_text m.vertices ++ polygons_text m.polygons m.links)
 
 -- "A refused build prints its second number as line."
-unfoldable pub builtText : Sheet → Outcome → List ℕ
-builtText s (refused r) = refusedText (refusalNumber r) (refusalSecond r)
-builtText s (built m links log) =
-    unitLine s.inches ++ (numberLine cellName (s.size ∷ s.height ∷ []) ++ meshText (record { vertices = m.vertices; polygons = m.polygons; links = links }))
+unfoldable pub built_text : Sheet → Outcome → List ℕ
+built_text s (refused r) = refused_text (refusal_number r) (refusal_second r)
+built_text s (built m links log) =
+    unit_line s.inches ++ (number_line cell_name (s.size ∷ s.height ∷ []) ++ mesh_text (record { vertices = m.vertices; polygons = m.polygons; links = links }))
 
 -- what is printed for what was read as far as its end, by f
-unfoldable pub readText : {A : Type 0} → (A → List ℕ) → Read A → List ℕ
-readText f (bad number line) = refusedText number line
-readText f (taken a) = f a
+unfoldable pub read_text : {A : Type 0} → (A → List ℕ) → Read A → List ℕ
+read_text f (bad number line) = refused_text number line
+read_text f (taken a) = f a
 
 -- what is printed for bytes whose lines are read so. "23 over 65,536 bytes (line 0), before all"
-unfoldable pub textBy : {A : Type 0} → (List Line → Read A) → (A → List ℕ) → List ℕ → List ℕ
-textBy read f bytes = elim (ltb bytesMost (length bytes)) [
-  | true ↦ refusedText 23 0
-  | false ↦ readText f (read (lines_of bytes))
+unfoldable pub text_by : {A : Type 0} → (List Line → Read A) → (A → List ℕ) → List ℕ → List ℕ
+text_by read f bytes = elim (ltb bytes_most (length bytes)) [
+  | true ↦ refused_text 23 0
+  | false ↦ read_text f (read (lines_of bytes))
 ]
 
 -- the sheet is meshed
 unfoldable pub text_of : List ℕ → List ℕ
-text_of bytes = textBy readSheet (λ s. builtText s (outcomeOf s.job)) bytes
+text_of bytes = text_by read_sheet (λ s. built_text s (outcome_of s.job)) bytes

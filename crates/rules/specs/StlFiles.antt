@@ -8,16 +8,16 @@ use Rattle.mem.specs.Packed.{packed}
 use Rattle.rules.specs.Computing.{rules}
 use Rattle.rules.specs.Links.{none}
 use Rattle.rules.specs.Lines.{ascii, lf}
-use Rattle.rules.specs.Handed.{Handed, vertexCount, polygonCount, meshIn, cornerWord, linkWord, all_of, any_of, firstFault, blocksAgree, withinLimits}
-use Rattle.rules.specs.Handed.{areFew, buffersHold, cornersHold, namesBack, linkHolds, linksHold, orFault, soundness, faultNumber, faultSecond}
-use Rattle.rules.specs.Stl.{little, fromLittle, Scale, size_of, heightOf, isLength, isScale, coordinate, cornerOf, point_of, facetOf, fanOf, facetsOf}
-use Rattle.rules.specs.Stl.{facetCount, facetBytes, fileOf, fileLength, countIn, rightLength, zeroDue, wrongAt, firstWrong, facetIn, facetsIn}
-use Rattle.rules.specs.Stl.{afterZeros, reading}
-use Rattle.rules.specs.StlCall.{meshFacets, meshCount, meshFile, roomReply, stlReply, stlLeft, stlExit, stlNumber, stlSecond, stlWords, facetWords}
-use Rattle.rules.specs.StlCall.{pointWords, unstlAnswer, unstlReply, unstlLeft, unstlExit, unstlNumber, unstlSecond, unstlWords}
-use Rattle.rules.specs.StlText.{scale_of, carved, carvedText, stlText, isNegative, exponentOf, fractionOf, significand, powerOf, tenThousandths}
-use Rattle.rules.specs.StlText.{fourDigits, decimals, hexDigit, bitsText, isShown, signText, coordinateText, facetsName, facetLine, facetLines}
-use Rattle.rules.specs.StlText.{readingText, facetsText}
+use Rattle.rules.specs.Handed.{Handed, vertex_count, polygon_count, mesh_in, corner_word, link_word, all_of, any_of, first_fault, blocks_agree, within_limits}
+use Rattle.rules.specs.Handed.{are_few, buffers_hold, corners_hold, names_back, link_holds, links_hold, or_fault, soundness, fault_number, fault_second}
+use Rattle.rules.specs.Stl.{little, from_little, Scale, size_of, height_of, is_length, is_scale, coordinate, corner_of, point_of, facet_of, fan_of, facets_of}
+use Rattle.rules.specs.Stl.{facet_count, facet_bytes, file_of, file_length, count_in, right_length, zero_due, wrong_at, first_wrong, facet_in, facets_in}
+use Rattle.rules.specs.Stl.{after_zeros, reading}
+use Rattle.rules.specs.StlCall.{mesh_facets, mesh_count, mesh_file, room_reply, stl_reply, stl_left, stl_exit, stl_number, stl_second, stl_words, facet_words}
+use Rattle.rules.specs.StlCall.{point_words, unstl_answer, unstl_reply, unstl_left, unstl_exit, unstl_number, unstl_second, unstl_words}
+use Rattle.rules.specs.StlText.{scale_of, carved, carved_text, stl_text, is_negative, exponent_of, fraction_of, significand, power_of, ten_thousandths}
+use Rattle.rules.specs.StlText.{four_digits, decimals, hex_digit, bits_text, is_shown, sign_text, coordinate_text, facets_name, facet_line, facet_lines}
+use Rattle.rules.specs.StlText.{reading_text, facets_text}
 
 -- ---- what an example says
 
@@ -60,12 +60,12 @@ pub data Filing : Type 0 where
   measures : Bool → ℕ → ℕ → Filing
 
 unfoldable pub FileHolds : Filing → Type 0
-FileHolds (writes m s room n k bytes) = stlWords (stlReply m s room) ++ stlExit m s (lent room) ≡ n ∷ k ∷ 0 ∷ bytes
-FileHolds (reads bs room n k words) = unstlWords (unstlReply bs room) ++ unstlExit bs (lent room) ≡ n ∷ k ∷ 0 ∷ words
-FileHolds (shows p t) = coordinateText p ≡ ascii t
-FileHolds (prints bs ts) = facetsText bs ≡ text ts
-FileHolds (carves ts bs) = stlText (text ts) ≡ bs
-FileHolds (measures inches size height) = isScale (scale_of inches size height) ≡ true
+FileHolds (writes m s room n k bytes) = stl_words (stl_reply m s room) ++ stl_exit m s (lent room) ≡ n ∷ k ∷ 0 ∷ bytes
+FileHolds (reads bs room n k words) = unstl_words (unstl_reply bs room) ++ unstl_exit bs (lent room) ≡ n ∷ k ∷ 0 ∷ words
+FileHolds (shows p t) = coordinate_text p ≡ ascii t
+FileHolds (prints bs ts) = facets_text bs ≡ text ts
+FileHolds (carves ts bs) = stl_text (text ts) ≡ bs
+FileHolds (measures inches size height) = is_scale (scale_of inches size height) ≡ true
 
 infixr 20 ◌&◌
 pub data AllFile : List Filing → Type 0 where
@@ -104,8 +104,8 @@ abbrev row : Handed
 row = mesh 5 (0 ∷ 0 ∷ 0 ∷ 1 ∷ 0 ∷ 0 ∷ 2 ∷ 0 ∷ 0 ∷ 3 ∷ 0 ∷ 0 ∷ 4 ∷ 0 ∷ 0 ∷ []) (0 ∷ 1 ∷ 2 ∷ 3 ∷ 4 ∷ 4 ∷ 3 ∷ 1 ∷ none ∷ none ∷ []) (replicate 10 none)
 
 -- the file of a triangle of one vertex with these three patterns
-abbrev dotFile : String → List ℕ
-dotFile t = file "01000000" (t ∷ [])
+abbrev dot_file : String → List ℕ
+dot_file t = file "01000000" (t ∷ [])
 
 -- nothing, and 36 zeros
 abbrev none0 : List ℕ
@@ -137,15 +137,15 @@ filings =
     "000000000000000000000000000040400000000000000000000080400000000000000000" ∷
     "0000804000000000000000000000404000000000000000000000803f0000000000000000" ∷ [])) ∷
     -- "y by cell height": size 1, height 2; y has all its 16 bits
-    writes (dot 1 1 3) (mm 0x3f80_0000 0x4000_0000) 134 0 1 (dotFile "0000803f00000040000040400000803f00000040000040400000803f0000004000004040") ∷
-    writes (dot 0 65535 0) one 134 0 1 (dotFile "0000000000ff7f47000000000000000000ff7f47000000000000000000ff7f4700000000") ∷
+    writes (dot 1 1 3) (mm 0x3f80_0000 0x4000_0000) 134 0 1 (dot_file "0000803f00000040000040400000803f00000040000040400000803f0000004000004040") ∷
+    writes (dot 0 65535 0) one 134 0 1 (dot_file "0000000000ff7f47000000000000000000ff7f47000000000000000000ff7f4700000000") ∷
     -- "rounded once; inches are converted first": 3 times (0.001 in), and 0.005 in; the height too
-    writes (dot 3 0 0) (inch 0x3a83_126f 0x3f80_0000) 134 0 1 (dotFile "c00e9c3d0000000000000000c00e9c3d0000000000000000c00e9c3d0000000000000000") ∷
-    writes (dot 1 0 0) (inch 0x3ba3_d70a 0x3f80_0000) 134 0 1 (dotFile "490c023e0000000000000000490c023e0000000000000000490c023e0000000000000000") ∷
-    writes (dot 0 1 0) (inch 0x3f80_0000 0x3f80_0000) 134 0 1 (dotFile "000000003333cb4100000000000000003333cb4100000000000000003333cb4100000000") ∷
+    writes (dot 3 0 0) (inch 0x3a83_126f 0x3f80_0000) 134 0 1 (dot_file "c00e9c3d0000000000000000c00e9c3d0000000000000000c00e9c3d0000000000000000") ∷
+    writes (dot 1 0 0) (inch 0x3ba3_d70a 0x3f80_0000) 134 0 1 (dot_file "490c023e0000000000000000490c023e0000000000000000490c023e0000000000000000") ∷
+    writes (dot 0 1 0) (inch 0x3f80_0000 0x3f80_0000) 134 0 1 (dot_file "000000003333cb4100000000000000003333cb4100000000000000003333cb4100000000") ∷
     -- a product that is infinite is written, and so is the smallest length
-    writes (dot 2 0 0) (mm 0x7f7f_ffff 0x3f80_0000) 134 0 1 (dotFile "0000807f00000000000000000000807f00000000000000000000807f0000000000000000") ∷
-    writes (dot 1 0 0) (mm 0x0000_0001 0x3f80_0000) 134 0 1 (dotFile "010000000000000000000000010000000000000000000000010000000000000000000000") ∷
+    writes (dot 2 0 0) (mm 0x7f7f_ffff 0x3f80_0000) 134 0 1 (dot_file "0000807f00000000000000000000807f00000000000000000000807f0000000000000000") ∷
+    writes (dot 1 0 0) (mm 0x0000_0001 0x3f80_0000) 134 0 1 (dot_file "010000000000000000000000010000000000000000000000010000000000000000000000") ∷
     -- 70: "cell size or height, in millimetres, that isn't finite and above zero": 0, -0, below 0, infinite, NaN; and inches that are infinite in millimetres
     writes empty (mm 0x0000_0000 0x3f80_0000) 84 70 0 (lent 84) ∷
     writes empty (mm 0x3f80_0000 0x0000_0000) 84 70 0 (lent 84) ∷
@@ -163,12 +163,12 @@ filings =
     writes (mesh 3 (0 ∷ 0 ∷ 0 ∷ []) (0 ∷ 0 ∷ 0 ∷ []) (0 ∷ none ∷ none ∷ [])) (mm 0x7fc0_0000 0x3f80_0000) 0 42 0 [] ∷
     -- "71 room, exactly when the file needs more bytes than lent"
     writes (dot 0 0 0) one 133 71 0 (lent 133) ∷
-    writes (dot 0 0 0) one 134 0 1 (dotFile flat) ∷
+    writes (dot 0 0 0) one 134 0 1 (dot_file flat) ∷
     -- what was written is read, and what lies behind the words stays
     reads none0 0 0 0 [] ∷
-    reads (dotFile flat) 9 0 1 (replicate 9 0) ∷
+    reads (dot_file flat) 9 0 1 (replicate 9 0) ∷
     -- any pattern is read: 2, -0, a NaN, another NaN, and five times 0
-    reads (dotFile "00000040000000800000c07f010080ff0000000000000000000000000000000000000000") 10 0 1
+    reads (dot_file "00000040000000800000c07f010080ff0000000000000000000000000000000000000000") 10 0 1
     (0x4000_0000 ∷ 0x8000_0000 ∷ 0x7fc0_0000 ∷ 0xff80_0001 ∷ 0 ∷ 0 ∷ 0 ∷ 0 ∷ 0 ∷ 7 ∷ []) ∷
     -- 72: "length doesn't fit the count": nothing, a byte too few, one too many, a count of one more, one in big-endian, one whose bytes are 4 in 32 bits
     reads [] 0 72 0 [] ∷
@@ -189,7 +189,7 @@ filings =
     reads (file "02000000" (flat ∷ []) ++ (1 ∷ replicate 49 0)) 18 73 134 (lent 18) ∷
     -- 72 before 73, and both before 71
     reads (32 ∷ replicate 84 0) 0 72 0 [] ∷
-    reads (dotFile flat) 8 71 0 (lent 8) ∷
+    reads (dot_file flat) 8 71 0 (lent 8) ∷
     -- a coordinate is printed in millimetres with four decimals, the nearest; what is 2^50 mm and more, infinite or no number, by its bits
     shows 0x0000_0000 "0.0000" ∷
     shows 0x8000_0000 "-0.0000" ∷
@@ -229,9 +229,9 @@ filings =
     []
 
 -- each row holds
-pub all-filings : AllFile filings
-unfolding rules FileHolds span climb size odd units round mul div of_int of_fields of_bits to_bits blocks nibble pairs file text vertexCount polygonCount meshIn cornerWord linkWord all_of any_of firstFault blocksAgree withinLimits areFew buffersHold cornersHold namesBack linkHolds linksHold orFault soundness faultNumber faultSecond little fromLittle size_of heightOf isLength isScale coordinate cornerOf point_of facetOf fanOf facetsOf facetCount facetBytes fileOf fileLength countIn rightLength zeroDue wrongAt firstWrong facetIn facetsIn afterZeros reading meshFacets meshCount meshFile roomReply stlReply stlLeft stlExit stlNumber stlSecond stlWords facetWords pointWords unstlAnswer unstlReply unstlLeft unstlExit unstlNumber unstlSecond unstlWords scale_of carved carvedText stlText isNegative exponentOf fractionOf significand powerOf tenThousandths fourDigits decimals hexDigit bitsText isShown signText coordinateText facetsName facetLine facetLines readingText facetsText
-all-filings =
+pub all_filings : AllFile filings
+unfolding rules FileHolds span climb size odd units round mul div of_int of_fields of_bits to_bits blocks nibble pairs file text vertex_count polygon_count mesh_in corner_word link_word all_of any_of first_fault blocks_agree within_limits are_few buffers_hold corners_hold names_back link_holds links_hold or_fault soundness fault_number fault_second little from_little size_of height_of is_length is_scale coordinate corner_of point_of facet_of fan_of facets_of facet_count facet_bytes file_of file_length count_in right_length zero_due wrong_at first_wrong facet_in facets_in after_zeros reading mesh_facets mesh_count mesh_file room_reply stl_reply stl_left stl_exit stl_number stl_second stl_words facet_words point_words unstl_answer unstl_reply unstl_left unstl_exit unstl_number unstl_second unstl_words scale_of carved carved_text stl_text is_negative exponent_of fraction_of significand power_of ten_thousandths four_digits decimals hex_digit bits_text is_shown sign_text coordinate_text facets_name facet_line facet_lines reading_text facets_text
+all_filings =
     refl & refl & refl & refl & refl & refl & refl & refl & refl & refl & refl & refl & refl & refl & refl & refl & refl & refl & refl & refl &
     refl & refl & refl & refl & refl & refl & refl & refl & refl & refl & refl & refl & refl & refl & refl & refl & refl & refl & refl & refl &
     refl & refl & refl & refl & refl & refl & refl & refl & refl & refl & refl & refl & refl & refl & refl & refl & refl & refl & refl & refl &

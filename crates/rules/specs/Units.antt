@@ -9,34 +9,34 @@ use Rattle.rules.specs.declared.Vec3.{Vec3}
 use Rattle.rules.specs.declared.Header.{Header}
 
 -- "The cell size is a float tagged as millimetres or as inches"
-unfoldable pub sizeIn : Bool → Float → CellSize
-sizeIn true x = Inches x
-sizeIn false x = Millimetres x
+unfoldable pub size_in : Bool → Float → CellSize
+size_in true x = Inches x
+size_in false x = Millimetres x
 
 -- "f32 25.4", which is 0x41cb3333
-unfoldable pub perInch : Float
-perInch = Ieee.of_bits binary32 0x41cb_3333
+unfoldable pub per_inch : Float
+per_inch = Ieee.of_bits binary32 0x41cb_3333
 
 -- "in millimetres it is itself, or the inch number times f32 25.4, rounded once"
 unfoldable pub millimetres : CellSize → Float
 millimetres (Millimetres x) = x
-millimetres (Inches x) = Ieee.mul binary32 x perInch
+millimetres (Inches x) = Ieee.mul binary32 x per_inch
 
 -- of the job sheet: "thousandths, divided by 1000 with one rounding" (they are at most 16,777,216, which f32 holds exactly)
 unfoldable pub thousandths : ℕ → Float
 thousandths n = Ieee.div binary32 (Ieee.of_int binary32 (pos n)) (Ieee.of_int binary32 (pos 1000))
 
 -- of the job sheet: "Box and edge error are zero."
-unfoldable pub zeroFloat : Float
-zeroFloat = Ieee.of_bits binary32 0
+unfoldable pub zero_float : Float
+zero_float = Ieee.of_bits binary32 0
 
-unfoldable pub noPlace : Vec3
-noPlace = record { x = zeroFloat; y = zeroFloat; z = zeroFloat }
+unfoldable pub no_place : Vec3
+no_place = record { x = zero_float; y = zero_float; z = zero_float }
 
-unfoldable pub headerOf : Bool → ℕ → ℕ → Header
-headerOf inches size height = record {
-  aabb = record { min = noPlace; max = noPlace };
-  cell_size = sizeIn inches (thousandths size);
+unfoldable pub header_of : Bool → ℕ → ℕ → Header
+header_of inches size height = record {
+  aabb = record { min = no_place; max = no_place };
+  cell_size = size_in inches (thousandths size);
   cell_height = thousandths height;
-  max_edge_error = zeroFloat;
+  max_edge_error = zero_float;
 }

@@ -1,10 +1,10 @@
 -- What the types of a job's numbers allow, and that what a build writes fits the words of its buffers. Statements; the proofs are in crate `laws`.
 use Rattle.std.specs.Prelude.{◌≡◌, List, [], ℕ, ◌^◌, ◌≤◌, ◌<◌, length, get_or}
-use Rattle.rules.specs.Weld.{noVertex}
-use Rattle.rules.specs.Mesh.{Mesh, polygonAt}
+use Rattle.rules.specs.Weld.{no_vertex}
+use Rattle.rules.specs.Mesh.{Mesh, polygon_at}
 use Rattle.rules.specs.Removal.{Removal}
 use Rattle.rules.specs.Links.{none}
-use Rattle.rules.specs.Job.{Job, countV, count_t}
+use Rattle.rules.specs.Job.{Job, count_v, count_t}
 use Rattle.rules.specs.Checks.{Lent}
 use Rattle.rules.specs.Build.{built, outcome}
 
@@ -23,13 +23,13 @@ pub record Widths (j : Job) : Type 0 where
 -- "areas have 8 bits, the rest 16", and the links 32: what is written of a mesh m with links ls fits; a corner is never 65,535, which ends a polygon; and
 -- no polygon has the number 65,535, which says none
 pub record Fits (m : Mesh) (ls : List (List ℕ)) : Type 0 where
-  pub x : (k : ℕ) → (get_or m.vertices k noVertex).x < 2 ^ 16
-  pub y : (k : ℕ) → (get_or m.vertices k noVertex).y < 2 ^ 16
-  pub z : (k : ℕ) → (get_or m.vertices k noVertex).z < 2 ^ 16
-  pub corners : (i k : ℕ) → get_or (polygonAt m.polygons i).corners k 0 < none
+  pub x : (k : ℕ) → (get_or m.vertices k no_vertex).x < 2 ^ 16
+  pub y : (k : ℕ) → (get_or m.vertices k no_vertex).y < 2 ^ 16
+  pub z : (k : ℕ) → (get_or m.vertices k no_vertex).z < 2 ^ 16
+  pub corners : (i k : ℕ) → get_or (polygon_at m.polygons i).corners k 0 < none
   pub polygons : length m.polygons < none
-  pub regions : (i : ℕ) → (polygonAt m.polygons i).region < 2 ^ 16
-  pub codes : (i : ℕ) → (polygonAt m.polygons i).code < 2 ^ 8
+  pub regions : (i : ℕ) → (polygon_at m.polygons i).region < 2 ^ 16
+  pub codes : (i : ℕ) → (polygon_at m.polygons i).code < 2 ^ 8
   pub links : (i k : ℕ) → get_or (get_or ls i []) k none ≤ 65539
 
 abbrev pub WrittenFits : Type 0
@@ -38,7 +38,7 @@ WrittenFits = (j : Job) (b : Lent) (m : Mesh) (ls : List (List ℕ)) (log : List
 -- "`TooManyPolygons` can't arise.": a mesh has at most T polygons and V vertices, so that they find room in the buffers
 pub record HasRoom (j : Job) (m : Mesh) : Type 0 where
   pub polygons : length m.polygons ≤ count_t j
-  pub vertices : length m.vertices ≤ countV j
+  pub vertices : length m.vertices ≤ count_v j
 
 abbrev pub AlwaysRoom : Type 0
 AlwaysRoom = (j : Job) (b : Lent) (m : Mesh) (ls : List (List ℕ)) (log : List Removal) → outcome j b ≡ built m ls log → HasRoom j m

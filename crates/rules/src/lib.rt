@@ -15,7 +15,7 @@ pub struct Vertex {
     pub z: u16,
 }
 
-// How many numbers a stored vertex has: x, y and z. (`vertexStride` of the rules' `Checks`)
+// How many numbers a stored vertex has: x, y and z. (`vertex_stride` of the rules' `Checks`)
 pub const VERTEX_STRIDE: usize = 3;
 
 // The answer of a search: a place, or none.

@@ -5,52 +5,52 @@ use mathlib.Core.List.{List, [], ◌∷◌, ◌++◌, append_assoc, append-nil}
 use Prim.Native.Nat.{ℕ}
 use lib.IntN.{ℤ}
 use Rattle.mem.specs.Packed.{packed}
-use Rattle.rules.specs.Lines.{tabByte, lf, cell, signedCell, numberLine}
-use Rattle.rules.specs.Sheet.{unitName, mmName, inName, cellName, refusedName, meshName, pName, nName, refusedText, unitLine, polygonLines}
+use Rattle.rules.specs.Lines.{tab_byte, lf, cell, signed_cell, number_line}
+use Rattle.rules.specs.Sheet.{unit_name, mm_name, in_name, cell_name, refused_name, mesh_name, p_name, n_name, refused_text, unit_line, polygon_lines}
 use Rattle.lines.specs.Pieces.{joined}
-use Rattle.sheet.specs.Rows.{top_text, meshLineOf, polygonText}
+use Rattle.sheet.specs.Rows.{top_text, mesh_line_of, polygon_text}
 
 -- a name and numbers
-abbrev pub lineTexts : List ℕ → List ℕ → List (List ℕ)
-lineTexts name ns = name ∷ (packed cell ns ∷ ((lf ∷ []) ∷ []))
+abbrev pub line_texts : List ℕ → List ℕ → List (List ℕ)
+line_texts name ns = name ∷ (packed cell ns ∷ ((lf ∷ []) ∷ []))
 
-pub line-texts : (name ns : List ℕ) → numberLine name ns ≡ joined (lineTexts name ns)
-unfolding numberLine joined
-line-texts name ns = refl
+pub line_texts_lem : (name ns : List ℕ) → number_line name ns ≡ joined (line_texts name ns)
+unfolding number_line joined
+line_texts_lem name ns = refl
 
-abbrev pub refusedTexts : ℕ → ℕ → List (List ℕ)
-refusedTexts number line = refusedName ∷ (cell number ∷ (cell line ∷ ((lf ∷ []) ∷ [])))
+abbrev pub refused_texts : ℕ → ℕ → List (List ℕ)
+refused_texts number line = refused_name ∷ (cell number ∷ (cell line ∷ ((lf ∷ []) ∷ [])))
 
-pub refused-texts : (number line : ℕ) → refusedText number line ≡ joined (refusedTexts number line)
-unfolding refusedText numberLine packed joined
-refused-texts number line =
-    ap (λ (l : List ℕ). refusedName ++ l)
+pub refused_texts_lem : (number line : ℕ) → refused_text number line ≡ joined (refused_texts number line)
+unfolding refused_text number_line packed joined
+refused_texts_lem number line =
+    ap (λ (l : List ℕ). refused_name ++ l)
     (append_assoc (cell number) (cell line ++ []) (lf ∷ []) ∙ ap (λ (l : List ℕ). cell number ++ (l ++ (lf ∷ []))) (append-nil (cell line)))
 
-abbrev pub unitTexts : Bool → List (List ℕ)
-unitTexts inches = unitName ∷ ((tabByte ∷ []) ∷ (cond inches inName mmName ∷ ((lf ∷ []) ∷ [])))
+abbrev pub unit_texts : Bool → List (List ℕ)
+unit_texts inches = unit_name ∷ ((tab_byte ∷ []) ∷ (cond inches in_name mm_name ∷ ((lf ∷ []) ∷ [])))
 
-pub unit-texts : (inches : Bool) → unitLine inches ≡ joined (unitTexts inches)
-unfolding unitLine joined
-unit-texts inches = refl
+pub unit_texts_lem : (inches : Bool) → unit_line inches ≡ joined (unit_texts inches)
+unfolding unit_line joined
+unit_texts_lem inches = refl
 
-abbrev pub topTexts : Bool → ℕ → ℕ → List (List ℕ)
-topTexts inches size height = unitLine inches ∷ (numberLine cellName (size ∷ (height ∷ [])) ∷ [])
+abbrev pub top_texts : Bool → ℕ → ℕ → List (List ℕ)
+top_texts inches size height = unit_line inches ∷ (number_line cell_name (size ∷ (height ∷ [])) ∷ [])
 
-pub top-texts : (inches : Bool) (size height : ℕ) → top_text inches size height ≡ joined (topTexts inches size height)
+pub top_texts_lem : (inches : Bool) (size height : ℕ) → top_text inches size height ≡ joined (top_texts inches size height)
 unfolding top_text joined
-top-texts inches size height = ap (λ (l : List ℕ). unitLine inches ++ l) (sym (append-nil (numberLine cellName (size ∷ (height ∷ [])))))
+top_texts_lem inches size height = ap (λ (l : List ℕ). unit_line inches ++ l) (sym (append-nil (number_line cell_name (size ∷ (height ∷ [])))))
 
-abbrev pub meshTexts : ℕ → ℕ → ℤ → List (List ℕ)
-meshTexts k n area = meshName ∷ (cell k ∷ (cell n ∷ (signedCell area ∷ ((lf ∷ []) ∷ []))))
+abbrev pub mesh_texts : ℕ → ℕ → ℤ → List (List ℕ)
+mesh_texts k n area = mesh_name ∷ (cell k ∷ (cell n ∷ (signed_cell area ∷ ((lf ∷ []) ∷ []))))
 
-pub mesh-texts : (k n : ℕ) (area : ℤ) → meshLineOf k n area ≡ joined (meshTexts k n area)
-unfolding meshLineOf joined
-mesh-texts k n area = refl
+pub mesh_texts_lem : (k n : ℕ) (area : ℤ) → mesh_line_of k n area ≡ joined (mesh_texts k n area)
+unfolding mesh_line_of joined
+mesh_texts_lem k n area = refl
 
-abbrev pub polygonTexts : ℕ → ℕ → List ℕ → List ℕ → List (List ℕ)
-polygonTexts region code corners links = pName ∷ (cell region ∷ (cell code ∷ (packed cell corners ∷ ((lf ∷ []) ∷ (numberLine nName links ∷ [])))))
+abbrev pub polygon_texts : ℕ → ℕ → List ℕ → List ℕ → List (List ℕ)
+polygon_texts region code corners links = p_name ∷ (cell region ∷ (cell code ∷ (packed cell corners ∷ ((lf ∷ []) ∷ (number_line n_name links ∷ [])))))
 
-pub polygon-texts : (region code : ℕ) (corners links : List ℕ) → polygonText region code corners links ≡ joined (polygonTexts region code corners links)
-unfolding polygonText polygonLines numberLine packed joined
-polygon-texts region code corners links = simp (append_assoc, append-nil)
+pub polygon_texts_lem : (region code : ℕ) (corners links : List ℕ) → polygon_text region code corners links ≡ joined (polygon_texts region code corners links)
+unfolding polygon_text polygon_lines number_line packed joined
+polygon_texts_lem region code corners links = simp (append_assoc, append-nil)

@@ -5,10 +5,10 @@ use Rattle.rules.specs.Lines.{Numbers, numbers, malformed}
 use Rattle.rules.specs.Sheet.{Read, bad, need}
 
 module _ {A : Type 0} (k : ℕ) (f : List ℕ → Read A) {n : Numbers} where
-  pub need-bad : n ≡ malformed → need k n f ≡ bad 22 k
+  pub need_bad : n ≡ malformed → need k n f ≡ bad 22 k
   unfolding need
-  need-bad e = rw e refl
+  need_bad e = rw e refl
 
-  pub need-good : {ns : List ℕ} → n ≡ numbers ns → need k n f ≡ f ns
+  pub need_good : {ns : List ℕ} → n ≡ numbers ns → need k n f ≡ f ns
   unfolding need
-  need-good e = rw e refl
+  need_good e = rw e refl

@@ -1,17 +1,17 @@
 -- A stored mesh that is ready to be printed, and its text, part by part. Assumes nothing.
--- Key: `mesh-parts`: the text is the mesh line, the vertices' lines and the polygons'.
+-- Key: `mesh_parts`: the text is the mesh line, the vertices' lines and the polygons'.
 use Rattle.std.specs.Prelude.{◌≡◌, List, ◌++◌, ℕ, ◌*◌, ◌≤◌, length}
 use Rattle.std.proofs.Math.Path.{refl}
 use Rattle.mem.specs.Slice.{view}
-use Rattle.mem.specs.Tab.{length-tab}
-use Rattle.rules.specs.Checks.{vertexStride}
-use Rattle.rules.specs.Exits.{vertexOf, storedPolygon, storedLinks, decoded}
-use Rattle.rules.specs.Areas.{storedArea}
-use Rattle.rules.specs.Sheet.{meshLine, verticesText, polygonsText, meshText}
+use Rattle.mem.specs.Tab.{length_tab}
+use Rattle.rules.specs.Checks.{vertex_stride}
+use Rattle.rules.specs.Exits.{vertex_of, stored_polygon, stored_links, decoded}
+use Rattle.rules.specs.Areas.{stored_area}
+use Rattle.rules.specs.Sheet.{mesh_line, vertices_text, polygons_text, mesh_text}
 use Rattle.lines.specs.Print.{Room}
-use Rattle.stored.specs.Stored.{lent_of, storedIn, storedVertices, MeshReady}
-use Rattle.stored.specs.Areas.{area-stored}
-use Rattle.sheet.specs.Rows.{meshLineOf, vertexRows, polygonRows}
+use Rattle.stored.specs.Stored.{lent_of, stored_in, stored_vertices, MeshReady}
+use Rattle.stored.specs.Areas.{area_stored}
+use Rattle.sheet.specs.Rows.{mesh_line_of, vertex_rows, polygon_rows}
 
 -- the mesh can be measured, and its links, regions and codes are there
 pub record MeshStands (nvp n k : ℕ) (vs ps ls rs cs : List ℕ) : Type 0 where
@@ -23,33 +23,33 @@ pub record MeshStands (nvp n k : ℕ) (vs ps ls rs cs : List ℕ) : Type 0 where
 -- it stands there, and there is room for its text
 pub record Printable (out : List ℕ) (at nvp n k : ℕ) (vs ps ls rs cs : List ℕ) : Type 0 where
   pub stands : MeshStands nvp n k vs ps ls rs cs
-  pub room : Room out (meshText (decoded nvp n k (lent_of vs ps ls rs cs))) at
+  pub room : Room out (mesh_text (decoded nvp n k (lent_of vs ps ls rs cs))) at
 
 module _ (nvp n k : ℕ) (vs ps ls rs cs : List ℕ) where
-  vertices-counted : length (decoded nvp n k (lent_of vs ps ls rs cs)).vertices ≡ k
+  vertices_counted : length (decoded nvp n k (lent_of vs ps ls rs cs)).vertices ≡ k
   unfolding decoded lent_of
-  vertices-counted = length-tab (λ i. vertexOf (view vs (i * vertexStride) vertexStride)) k
+  vertices_counted = length_tab (λ i. vertex_of (view vs (i * vertex_stride) vertex_stride)) k
 
-  polygons-counted : length (decoded nvp n k (lent_of vs ps ls rs cs)).polygons ≡ n
+  polygons_counted : length (decoded nvp n k (lent_of vs ps ls rs cs)).polygons ≡ n
   unfolding decoded
-  polygons-counted = length-tab (storedPolygon nvp (lent_of vs ps ls rs cs)) n
+  polygons_counted = length_tab (stored_polygon nvp (lent_of vs ps ls rs cs)) n
 
-  area-measured : storedArea (decoded nvp n k (lent_of vs ps ls rs cs)) ≡ storedArea (storedIn nvp n k vs ps)
+  area_measured : stored_area (decoded nvp n k (lent_of vs ps ls rs cs)) ≡ stored_area (stored_in nvp n k vs ps)
   unfolding lent_of
-  area-measured = area-stored nvp n k (lent_of vs ps ls rs cs)
+  area_measured = area_stored nvp n k (lent_of vs ps ls rs cs)
 
-  line-is : meshLine (decoded nvp n k (lent_of vs ps ls rs cs)) ≡ meshLineOf k n (storedArea (storedIn nvp n k vs ps))
-  unfolding meshLine meshLineOf
-  line-is = rw (vertices-counted, polygons-counted, area-measured) refl
+  line_is : mesh_line (decoded nvp n k (lent_of vs ps ls rs cs)) ≡ mesh_line_of k n (stored_area (stored_in nvp n k vs ps))
+  unfolding mesh_line mesh_line_of
+  line_is = rw (vertices_counted, polygons_counted, area_measured) refl
 
-  vertices-are : verticesText (decoded nvp n k (lent_of vs ps ls rs cs)).vertices ≡ vertexRows vs k
-  unfolding decoded lent_of vertexRows storedVertices
-  vertices-are = refl
+  vertices_are : vertices_text (decoded nvp n k (lent_of vs ps ls rs cs)).vertices ≡ vertex_rows vs k
+  unfolding decoded lent_of vertex_rows stored_vertices
+  vertices_are = refl
 
-  polygons-are : polygonsText (decoded nvp n k (lent_of vs ps ls rs cs)).polygons (decoded nvp n k (lent_of vs ps ls rs cs)).links ≡ polygonRows nvp n ps ls rs cs
-  unfolding decoded lent_of polygonRows storedPolygon storedLinks
-  polygons-are = refl
+  polygons_are : polygons_text (decoded nvp n k (lent_of vs ps ls rs cs)).polygons (decoded nvp n k (lent_of vs ps ls rs cs)).links ≡ polygon_rows nvp n ps ls rs cs
+  unfolding decoded lent_of polygon_rows stored_polygon stored_links
+  polygons_are = refl
 
-  pub mesh-parts : meshText (decoded nvp n k (lent_of vs ps ls rs cs)) ≡ meshLineOf k n (storedArea (storedIn nvp n k vs ps)) ++ (vertexRows vs k ++ polygonRows nvp n ps ls rs cs)
-  unfolding meshText
-  mesh-parts = rw (line-is, vertices-are, polygons-are) refl
+  pub mesh_parts : mesh_text (decoded nvp n k (lent_of vs ps ls rs cs)) ≡ mesh_line_of k n (stored_area (stored_in nvp n k vs ps)) ++ (vertex_rows vs k ++ polygon_rows nvp n ps ls rs cs)
+  unfolding mesh_text
+  mesh_parts = rw (line_is, vertices_are, polygons_are) refl

@@ -1,8 +1,8 @@
 // A job is built, and its text printed.
 ghost use Rattle.std.specs.Prelude.{◌≤◌};
 ghost use Rattle.lines.specs.Print.{Printed};
-ghost use Rattle.sheet.specs.Room.{outMost};
-ghost use Rattle.sheet.specs.Answering.{ReplyReady, replyText, JobReady, jobText};
+ghost use Rattle.sheet.specs.Room.{out_most};
+ghost use Rattle.sheet.specs.Answering.{ReplyReady, reply_text, JobReady, job_text};
 
 use crate::header::header_of;
 use crate::heading::Heading;
@@ -24,7 +24,7 @@ fn put_reply(
     out: &mut [u8],
 ) -> usize
     requires { ReplyReady x reply vertices.now polygons.now neighbours.now regions.now codes.now out.old }
-    ensures { Printed (replyText x reply vertices.now polygons.now neighbours.now regions.now codes.now) out.old out.new 0 result }
+    ensures { Printed (reply_text x reply vertices.now polygons.now neighbours.now regions.now codes.now) out.old out.new 0 result }
 {
     match reply {
         Reply::Refused(r) => put_refused(out, refusal_number(r), refusal_second(r)),
@@ -56,8 +56,8 @@ pub fn answer_job(
     out: &mut [u8],
 ) -> usize
     requires { JobReady lengths.now out.old }
-    ensures printed { Printed (jobText x lengths.now regions.now codes.now numbers.now) out.old out.new 0 result }
-    ensures short { result ≤ outMost }
+    ensures printed { Printed (job_text x lengths.now regions.now codes.now numbers.now) out.old out.new 0 result }
+    ensures short { result ≤ out_most }
 {
     let mut vertices = [0u16; 288];
     let mut polygons = [0u16; 1152];

@@ -1,6 +1,6 @@
 // The lines behind the heading are read: contours, each with its vertices.
 ghost use Rattle.std.specs.Prelude.{◌≡◌};
-ghost use Rattle.sheet.specs.Reading.{stoppedBy, ContourReady, ContourRead, VertexReady, VertexRead, LineReady, Stepped, BodyReady, BodyRead};
+ghost use Rattle.sheet.specs.Reading.{stopped_by, ContourReady, ContourRead, VertexReady, VertexRead, LineReady, Stepped, BodyReady, BodyRead};
 
 use crate::heading::NUMBER_MOST;
 use lines::line::read_line;
@@ -34,7 +34,7 @@ pub struct Progress {
 
 // The reading ends here.
 fn stopped(p: Progress, refusal: u64) -> Progress
-    ensures { result ≡ stoppedBy refusal p }
+    ensures { result ≡ stopped_by refusal p }
 {
     Progress {
         refusal: refusal,

@@ -1,13 +1,13 @@
 // The header of the mesh.
 ghost use Rattle.std.specs.Prelude.{◌≡◌};
-ghost use Rattle.rules.specs.Units.{headerOf};
+ghost use Rattle.rules.specs.Units.{header_of};
 
 use plane::unit::{cell_size, thousandths};
 use rules::{Aabb3d, Header, Vec3};
 
 // The header of a sheet whose cell has this size and height, in thousandths of its unit; box and edge error are zero.
 pub fn header_of(inches: bool, size: u32, height: u32) -> Header
-    ensures { result ≡ headerOf inches size height }
+    ensures { result ≡ header_of inches size height }
 {
     let zero = Vec3 {
         x: 0.0,

@@ -1,8 +1,8 @@
 // The heading lines are read: unit, cell, nvp, grid.
 ghost use Rattle.std.specs.Prelude.{◌≡◌, ◌≤◌, length, drop};
 ghost use Rattle.rules.specs.Lines.{lines_of};
-ghost use Rattle.rules.specs.Sheet.{readHeading};
-ghost use Rattle.sheet.specs.Reading.{UnitIs, fromCell, headedAs, BehindIs, Behind};
+ghost use Rattle.rules.specs.Sheet.{read_heading};
+ghost use Rattle.sheet.specs.Reading.{UnitIs, from_cell, headed_as, BehindIs, Behind};
 
 use lines::line::read_line;
 use lines::scan::{find, is_same_text};
@@ -59,7 +59,7 @@ fn read_unit(text: &[u8]) -> UnitRead
 // The lines behind it, the first of which begins at `from`.
 fn read_rest(text: &[u8], inches: bool, from: usize) -> HeadingRead
     requires { from ≤ length text.now }
-    ensures { (fromCell inches (lines_of (drop from text.now)) ≡ headedAs result)
+    ensures { (from_cell inches (lines_of (drop from text.now)) ≡ headed_as result)
         × BehindIs text.now (drop 3 (lines_of (drop from text.now))) result }
 {
     let cell = read_line(text, from, b"cell", 1, &[CELL_MOST, CELL_MOST]);
@@ -94,7 +94,7 @@ fn read_rest(text: &[u8], inches: bool, from: usize) -> HeadingRead
 
 // The heading of a sheet, or the refusal at its first bad line.
 pub fn read_heading(text: &[u8]) -> HeadingRead
-    ensures { (readHeading (lines_of text.now) ≡ headedAs result) × Behind text.now result }
+    ensures { (read_heading (lines_of text.now) ≡ headed_as result) × Behind text.now result }
 {
     match read_unit(text) {
         UnitRead::Known(inches, at) => read_rest(text, inches, at),

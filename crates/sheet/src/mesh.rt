@@ -1,6 +1,6 @@
 // A stored mesh printed.
 ghost use Rattle.rules.specs.Exits.{decoded};
-ghost use Rattle.rules.specs.Sheet.{meshText};
+ghost use Rattle.rules.specs.Sheet.{mesh_text};
 ghost use Rattle.lines.specs.Print.{Printed};
 ghost use Rattle.stored.specs.Stored.{lent_of};
 ghost use Rattle.sheet.specs.Printable.{Printable};
@@ -22,7 +22,7 @@ pub fn put_mesh(
     codes: &[u8],
 ) -> usize
     requires { Printable out.old at nvp n k vertices.now polygons.now neighbours.now regions.now codes.now }
-    ensures { Printed (meshText (decoded nvp n k (lent_of vertices.now polygons.now neighbours.now regions.now codes.now))) out.old out.new at result }
+    ensures { Printed (mesh_text (decoded nvp n k (lent_of vertices.now polygons.now neighbours.now regions.now codes.now))) out.old out.new at result }
 {
     let area = mesh_area(nvp, n, k, vertices, polygons);
     let a = put_mesh_line(out, at, k as u64, n as u64, area);

@@ -1,6 +1,6 @@
 // A sheet is read, from its first byte to its last contour.
 ghost use Rattle.sheet.specs.declared.heading.HeadingRead.TheVariants.{Headed};
-ghost use Rattle.sheet.specs.Reading.{goesOn, BodyReady, readBytes, ListsReady, ReadAs};
+ghost use Rattle.sheet.specs.Reading.{goes_on, BodyReady, read_bytes, ListsReady, ReadAs};
 
 use crate::body::read_body;
 use crate::heading::{Heading, HeadingRead, read_heading};
@@ -22,7 +22,7 @@ fn read_contours(
     numbers: &mut [u16],
 ) -> SheetRead
     requires { BodyReady text.now x.at lengths.old regions.old codes.old numbers.old }
-    ensures { ReadAs (goesOn text.now (Headed x)) result lengths.new regions.new codes.new numbers.new }
+    ensures { ReadAs (goes_on text.now (Headed x)) result lengths.new regions.new codes.new numbers.new }
 {
     let p = read_body(text, x.at, lengths, regions, codes, numbers);
     if p.refusal > 0 {
@@ -40,7 +40,7 @@ pub fn read_sheet(
     numbers: &mut [u16],
 ) -> SheetRead
     requires { ListsReady lengths.old regions.old codes.old numbers.old }
-    ensures { ReadAs (readBytes text.now) result lengths.new regions.new codes.new numbers.new }
+    ensures { ReadAs (read_bytes text.now) result lengths.new regions.new codes.new numbers.new }
 {
     if text.len() > 65536 {
         return SheetRead::Bad(23, 0);

@@ -1,9 +1,9 @@
 // The lines of a mesh are printed.
 ghost use Rattle.std.specs.Prelude.{cond};
-ghost use Rattle.rules.specs.Lines.{numberLine};
-ghost use Rattle.rules.specs.Sheet.{mmName, inName, refusedText, unitLine};
+ghost use Rattle.rules.specs.Lines.{number_line};
+ghost use Rattle.rules.specs.Sheet.{mm_name, in_name, refused_text, unit_line};
 ghost use Rattle.lines.specs.Print.{Room, Printed};
-ghost use Rattle.sheet.specs.Rows.{top_text, meshLineOf, polygonText, vertexRows, polygonRows, VerticesReady, PolygonsReady};
+ghost use Rattle.sheet.specs.Rows.{top_text, mesh_line_of, polygon_text, vertex_rows, polygon_rows, VerticesReady, PolygonsReady};
 
 use lines::cells::{put_cell, put_cells16, put_cells32, put_signed_cell};
 use lines::print::put_text;
@@ -12,8 +12,8 @@ use stored::corners::count_corners;
 
 // A line of a name and of numbers of 16 bits.
 pub fn put_line16(out: &mut [u8], at: usize, name: &[u8], ns: &[u16]) -> usize
-    requires { Room out.old (numberLine name.now ns.now) at }
-    ensures { Printed (numberLine name.now ns.now) out.old out.new at result }
+    requires { Room out.old (number_line name.now ns.now) at }
+    ensures { Printed (number_line name.now ns.now) out.old out.new at result }
 {
     let a = put_text(out, at, name);
     let e = put_cells16(out, a, ns);
@@ -23,8 +23,8 @@ pub fn put_line16(out: &mut [u8], at: usize, name: &[u8], ns: &[u16]) -> usize
 
 // A line of a name and of numbers of 32 bits.
 pub fn put_line32(out: &mut [u8], at: usize, name: &[u8], ns: &[u32]) -> usize
-    requires { Room out.old (numberLine name.now ns.now) at }
-    ensures { Printed (numberLine name.now ns.now) out.old out.new at result }
+    requires { Room out.old (number_line name.now ns.now) at }
+    ensures { Printed (number_line name.now ns.now) out.old out.new at result }
 {
     let a = put_text(out, at, name);
     let e = put_cells32(out, a, ns);
@@ -34,8 +34,8 @@ pub fn put_line32(out: &mut [u8], at: usize, name: &[u8], ns: &[u32]) -> usize
 
 // A refusal: its number, and its line or second number.
 pub fn put_refused(out: &mut [u8], number: u64, line: u64) -> usize
-    requires { Room out.old (refusedText number line) 0 }
-    ensures { Printed (refusedText number line) out.old out.new 0 result }
+    requires { Room out.old (refused_text number line) 0 }
+    ensures { Printed (refused_text number line) out.old out.new 0 result }
 {
     let a = put_text(out, 0, b"refused");
     let b = put_cell(out, a, number);
@@ -46,8 +46,8 @@ pub fn put_refused(out: &mut [u8], number: u64, line: u64) -> usize
 
 // What the unit is called.
 fn put_unit_name(out: &mut [u8], at: usize, inches: bool) -> usize
-    requires { Room out.old (cond inches inName mmName) at }
-    ensures { Printed (cond inches inName mmName) out.old out.new at result }
+    requires { Room out.old (cond inches in_name mm_name) at }
+    ensures { Printed (cond inches in_name mm_name) out.old out.new at result }
 {
     if inches {
         return put_text(out, at, b"in");
@@ -57,8 +57,8 @@ fn put_unit_name(out: &mut [u8], at: usize, inches: bool) -> usize
 
 // The line of the unit.
 fn put_unit(out: &mut [u8], inches: bool) -> usize
-    requires { Room out.old (unitLine inches) 0 }
-    ensures { Printed (unitLine inches) out.old out.new 0 result }
+    requires { Room out.old (unit_line inches) 0 }
+    ensures { Printed (unit_line inches) out.old out.new 0 result }
 {
     let a = put_text(out, 0, b"unit");
     out[a] = b'\t';
@@ -79,8 +79,8 @@ pub fn put_top(out: &mut [u8], inches: bool, size: u32, height: u32) -> usize
 
 // How many vertices and polygons there are, and their doubled area.
 pub fn put_mesh_line(out: &mut [u8], at: usize, k: u64, n: u64, area: i64) -> usize
-    requires { Room out.old (meshLineOf k n area) at }
-    ensures { Printed (meshLineOf k n area) out.old out.new at result }
+    requires { Room out.old (mesh_line_of k n area) at }
+    ensures { Printed (mesh_line_of k n area) out.old out.new at result }
 {
     let a = put_text(out, at, b"mesh");
     let b = put_cell(out, a, k);
@@ -93,7 +93,7 @@ pub fn put_mesh_line(out: &mut [u8], at: usize, k: u64, n: u64, area: i64) -> us
 // The first k vertices.
 pub fn put_vertices(out: &mut [u8], at: usize, k: usize, vertices: &[u16]) -> usize
     requires { VerticesReady out.old at k vertices.now }
-    ensures { Printed (vertexRows vertices.now k) out.old out.new at result }
+    ensures { Printed (vertex_rows vertices.now k) out.old out.new at result }
 {
     let mut to = at;
     let mut i = 0;
@@ -114,8 +114,8 @@ fn put_polygon(
     corners: &[u16],
     links: &[u32],
 ) -> usize
-    requires { Room out.old (polygonText region code corners.now links.now) at }
-    ensures { Printed (polygonText region code corners.now links.now) out.old out.new at result }
+    requires { Room out.old (polygon_text region code corners.now links.now) at }
+    ensures { Printed (polygon_text region code corners.now links.now) out.old out.new at result }
 {
     let a = put_text(out, at, b"p");
     let b = put_cell(out, a, region as u64);
@@ -137,7 +137,7 @@ pub fn put_polygons(
     codes: &[u8],
 ) -> usize
     requires { PolygonsReady out.old at nvp n polygons.now neighbours.now regions.now codes.now }
-    ensures { Printed (polygonRows nvp n polygons.now neighbours.now regions.now codes.now) out.old out.new at result }
+    ensures { Printed (polygon_rows nvp n polygons.now neighbours.now regions.now codes.now) out.old out.new at result }
 {
     let mut to = at;
     let mut i = 0;

@@ -8,66 +8,66 @@ use lib.Dec.{leb, eqb}
 use lib.ListN.{length}
 use Rattle.ints.specs.Bools.{and_left, and_right}
 use Rattle.mem.specs.Slice.{splice}
-use Rattle.rules.specs.Stl.{fileLength, facetsRead, countIn, rightLength, firstWrong, facetsIn, afterZeros, reading}
-use Rattle.rules.specs.StlCall.{pointWords, unstlAnswer, unstlReply, unstlLeft, unstlExit}
+use Rattle.rules.specs.Stl.{file_length, facets_read, count_in, right_length, first_wrong, facets_in, after_zeros, reading}
+use Rattle.rules.specs.StlCall.{point_words, unstl_answer, unstl_reply, unstl_left, unstl_exit}
 use Rattle.rules.specs.declared.Found.{Found}
 use Rattle.rules.specs.declared.Found.TheVariants.{At, Nothing}
 use Rattle.rules.specs.declared.UnstlReply.{UnstlReply}
 use Rattle.rules.specs.declared.UnstlReply.TheVariants.{Taken, BadLength, NotZero, ShortPoints}
-use Rattle.laws.specs.StlWords.{facets-in-long}
+use Rattle.laws.specs.StlWords.{facets_in_long}
 
 module _ (bs : List ℕ) where
   -- ---- a file of the right length
 
-  module _ (right : rightLength bs ≡ true) where
-    pub front-there : 84 ≤ length bs
-    unfolding rightLength
-    front-there = leb-true 84 (length bs) (and_left (leb 84 (length bs)) (eqb (length bs) (fileLength (countIn bs))) right)
+  module _ (right : right_length bs ≡ true) where
+    pub front_there : 84 ≤ length bs
+    unfolding right_length
+    front_there = leb-true 84 (length bs) (and_left (leb 84 (length bs)) (eqb (length bs) (file_length (count_in bs))) right)
 
-    pub facets-there : length bs ≡ 84 + countIn bs * 50
-    unfolding rightLength fileLength
-    facets-there = eqb-true (length bs) (fileLength (countIn bs)) (and_right (leb 84 (length bs)) (eqb (length bs) (fileLength (countIn bs))) right)
+    pub facets_there : length bs ≡ 84 + count_in bs * 50
+    unfolding right_length file_length
+    facets_there = eqb-true (length bs) (file_length (count_in bs)) (and_right (leb 84 (length bs)) (eqb (length bs) (file_length (count_in bs))) right)
 
   -- ---- its facets, n of them, fit the words or they don't
 
-  module _ (words : List ℕ) {n : ℕ} (e : n ≡ countIn bs) where
+  module _ (words : List ℕ) {n : ℕ} (e : n ≡ count_in bs) where
     abbrev answer : UnstlReply
-    answer = unstlAnswer (facetsRead (facetsIn bs)) (length words)
+    answer = unstl_answer (facets_read (facets_in bs)) (length words)
 
-    pub points-short : length words < n * 9 → (ShortPoints ≡ answer) × (words ≡ unstlLeft (pointWords (facetsIn bs)) words ShortPoints)
-    unfolding unstlAnswer unstlLeft
-    points-short h =
-        let m : length words < countIn bs * 9 = rw e at h in
-        (rw (facets-in-long bs, lt-leb (countIn bs * 9) (length words) m) refl, refl)
+    pub points_short : length words < n * 9 → (ShortPoints ≡ answer) × (words ≡ unstl_left (point_words (facets_in bs)) words ShortPoints)
+    unfolding unstl_answer unstl_left
+    points_short h =
+        let m : length words < count_in bs * 9 = rw e at h in
+        (rw (facets_in_long bs, lt-leb (count_in bs * 9) (length words) m) refl, refl)
 
-    pub points-taken : {x : List ℕ} → n * 9 ≤ length words → x ≡ splice words 0 (pointWords (facetsIn bs))
-        → (Taken n ≡ answer) × (x ≡ unstlLeft (pointWords (facetsIn bs)) words (Taken n))
-    unfolding unstlAnswer unstlLeft
-    points-taken h f =
-        let m : countIn bs * 9 ≤ length words = rw e at h in
-        (rw (facets-in-long bs, le-leb (countIn bs * 9) (length words) m, e) refl, f)
+    pub points_taken : {x : List ℕ} → n * 9 ≤ length words → x ≡ splice words 0 (point_words (facets_in bs))
+        → (Taken n ≡ answer) × (x ≡ unstl_left (point_words (facets_in bs)) words (Taken n))
+    unfolding unstl_answer unstl_left
+    points_taken h f =
+        let m : count_in bs * 9 ≤ length words = rw e at h in
+        (rw (facets_in_long bs, le-leb (count_in bs * 9) (length words) m, e) refl, f)
 
   -- ---- the replies
 
   -- the words are what the reply leaves
   module _ (words : List ℕ) {r : UnstlReply} {x : List ℕ} where
-    left_so : r ≡ unstlReply bs (length words) → x ≡ unstlLeft (pointWords (facetsIn bs)) words r
-        → (r ≡ unstlReply bs (length words)) × (x ≡ unstlExit bs words)
-    unfolding unstlExit
-    left_so e f = (e, f ∙ ap (unstlLeft (pointWords (facetsIn bs)) words) e)
+    left_so : r ≡ unstl_reply bs (length words) → x ≡ unstl_left (point_words (facets_in bs)) words r
+        → (r ≡ unstl_reply bs (length words)) × (x ≡ unstl_exit bs words)
+    unfolding unstl_exit
+    left_so e f = (e, f ∙ ap (unstl_left (point_words (facets_in bs)) words) e)
 
-    pub read_whole : {t : Bool} {f : Found} → t ≡ rightLength bs → t ≡ true → f ≡ firstWrong bs → f ≡ Nothing
-        → (r ≡ unstlAnswer (facetsRead (facetsIn bs)) (length words)) × (x ≡ unstlLeft (pointWords (facetsIn bs)) words r)
-        → (r ≡ unstlReply bs (length words)) × (x ≡ unstlExit bs words)
-    unfolding unstlReply reading afterZeros
+    pub read_whole : {t : Bool} {f : Found} → t ≡ right_length bs → t ≡ true → f ≡ first_wrong bs → f ≡ Nothing
+        → (r ≡ unstl_answer (facets_read (facets_in bs)) (length words)) × (x ≡ unstl_left (point_words (facets_in bs)) words r)
+        → (r ≡ unstl_reply bs (length words)) × (x ≡ unstl_exit bs words)
+    unfolding unstl_reply reading after_zeros
     read_whole e y g z a = left_so (rw (sym e ∙ y, sym g ∙ z) a.0) a.1
 
   module _ (words : List ℕ) where
-    pub read-bad-length : {t : Bool} → t ≡ rightLength bs → t ≡ false → (BadLength ≡ unstlReply bs (length words)) × (words ≡ unstlExit bs words)
-    unfolding unstlReply unstlAnswer reading unstlLeft
-    read-bad-length e y = left_so words (rw (sym e ∙ y) refl) refl
+    pub read_bad_length : {t : Bool} → t ≡ right_length bs → t ≡ false → (BadLength ≡ unstl_reply bs (length words)) × (words ≡ unstl_exit bs words)
+    unfolding unstl_reply unstl_answer reading unstl_left
+    read_bad_length e y = left_so words (rw (sym e ∙ y) refl) refl
 
-    pub read-not-zero : {t : Bool} {f : Found} {i : ℕ} → t ≡ rightLength bs → t ≡ true → f ≡ firstWrong bs → f ≡ At i
-        → (NotZero i ≡ unstlReply bs (length words)) × (words ≡ unstlExit bs words)
-    unfolding unstlReply unstlAnswer reading afterZeros unstlLeft
-    read-not-zero e y g z = left_so words (rw (sym e ∙ y, sym g ∙ z) refl) refl
+    pub read_not_zero : {t : Bool} {f : Found} {i : ℕ} → t ≡ right_length bs → t ≡ true → f ≡ first_wrong bs → f ≡ At i
+        → (NotZero i ≡ unstl_reply bs (length words)) × (words ≡ unstl_exit bs words)
+    unfolding unstl_reply unstl_answer reading after_zeros unstl_left
+    read_not_zero e y g z = left_so words (rw (sym e ∙ y, sym g ∙ z) refl) refl

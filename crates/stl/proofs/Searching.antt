@@ -7,26 +7,26 @@ use Prim.Native.Nat.{ℕ, ◌+◌, ◌≤◌, ◌<◌}
 use lib.ListN.{length}
 use Rattle.mem.specs.Loops.{Left, turn, next, end}
 use Rattle.rules.specs.Lists.{when, or_else}
-use Rattle.rules.specs.Stl.{wrongAt, firstWrong}
+use Rattle.rules.specs.Stl.{wrong_at, first_wrong}
 use Rattle.rules.specs.declared.Found.TheVariants.{At, Nothing}
 
 -- i bytes were passed
 abbrev pub Searching : List ℕ → ℕ → Type 0
-Searching bs i = Left Nothing or_else (λ k. when (wrongAt bs k) k) (λ r. r) (firstWrong bs) (length bs) i
+Searching bs i = Left Nothing or_else (λ k. when (wrong_at bs k) k) (λ r. r) (first_wrong bs) (length bs) i
 
-pub search-begin : (bs : List ℕ) → Searching bs 0
-unfolding firstWrong
-search-begin bs = record { same = refl }
+pub search_begin : (bs : List ℕ) → Searching bs 0
+unfolding first_wrong
+search_begin bs = record { same = refl }
 
 -- the test of byte i says t
-module _ (bs : List ℕ) {i : ℕ} {t : Bool} (l : Searching bs i) (e : t ≡ wrongAt bs i) where
-  pub search-found : i < length bs → t ≡ true → At i ≡ firstWrong bs
+module _ (bs : List ℕ) {i : ℕ} {t : Bool} (l : Searching bs i) (e : t ≡ wrong_at bs i) where
+  pub search_found : i < length bs → t ≡ true → At i ≡ first_wrong bs
   unfolding when or_else
-  search-found h y = sym (turn l h ∙ rw (sym e ∙ y) refl)
+  search_found h y = sym (turn l h ∙ rw (sym e ∙ y) refl)
 
-  pub search-next : i < length bs → t ≡ false → Searching bs (i + 1)
+  pub search_next : i < length bs → t ≡ false → Searching bs (i + 1)
   unfolding when or_else
-  search-next h y = next l h (λ r. rw (sym e ∙ y) refl)
+  search_next h y = next l h (λ r. rw (sym e ∙ y) refl)
 
-pub search-end : (bs : List ℕ) {i : ℕ} → Searching bs i → length bs ≤ i → Nothing ≡ firstWrong bs
-search-end bs l h = sym (end l h)
+pub search_end : (bs : List ℕ) {i : ℕ} → Searching bs i → length bs ≤ i → Nothing ≡ first_wrong bs
+search_end bs l h = sym (end l h)

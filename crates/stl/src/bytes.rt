@@ -1,7 +1,7 @@
 // Numbers as four bytes, the lowest first; and zeros.
 ghost use Rattle.std.specs.Prelude.{◌≡◌, ◌+◌, ◌*◌, ◌≤◌, length, replicate};
 ghost use Rattle.mem.specs.Slice.{view, splice};
-ghost use Rattle.rules.specs.Stl.{little, fromLittle};
+ghost use Rattle.rules.specs.Stl.{little, from_little};
 
 // The four bytes of n, from `at` on.
 pub fn put_u32(out: &mut [u8], at: usize, n: u32)
@@ -24,7 +24,7 @@ fn joined(a: u8, b: u8, c: u8, d: u8) -> u32
 // The number in the four bytes from `at` on.
 pub fn get_u32(bytes: &[u8], at: usize) -> u32
     requires { at + 4 ≤ length bytes.now }
-    ensures { result ≡ fromLittle (view bytes.now at 4) }
+    ensures { result ≡ from_little (view bytes.now at 4) }
 {
     joined(bytes[at], bytes[at + 1], bytes[at + 2], bytes[at + 3])
 }

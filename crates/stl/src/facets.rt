@@ -1,8 +1,8 @@
 // The facets in a file: their count, and their patterns.
 ghost use Rattle.std.specs.Prelude.{◌≡◌, ◌+◌, ◌*◌, ◌≤◌, length};
 ghost use Rattle.mem.specs.Slice.{view, splice};
-ghost use Rattle.rules.specs.Stl.{rightLength, countIn, facetIn, facetsIn};
-ghost use Rattle.rules.specs.StlCall.{pointWords};
+ghost use Rattle.rules.specs.Stl.{right_length, count_in, facet_in, facets_in};
+ghost use Rattle.rules.specs.StlCall.{point_words};
 
 use crate::bytes::get_u32;
 use crate::header::{COUNT_AT, FACET_BYTES, FRONT_BYTES};
@@ -12,7 +12,7 @@ pub const FACET_WORDS: usize = 9;
 
 // Whether a file's length fits its count.
 pub fn right_length(file: &[u8]) -> bool
-    ensures { result ≡ rightLength file.now }
+    ensures { result ≡ right_length file.now }
 {
     if file.len() < FRONT_BYTES {
         return false;
@@ -25,7 +25,7 @@ pub fn right_length(file: &[u8]) -> bool
 pub fn get_facet(file: &[u8], at: usize, words: &mut [u32], to: usize)
     requires at_in_bounds { at + 50 ≤ length file.now }
     requires to_in_bounds { to + 9 ≤ length words.old }
-    ensures { words.new ≡ splice words.old to (facetIn (view file.now at 50)) }
+    ensures { words.new ≡ splice words.old to (facet_in (view file.now at 50)) }
 {
     let mut i = 0;
     while i < FACET_WORDS {
@@ -36,10 +36,10 @@ pub fn get_facet(file: &[u8], at: usize, words: &mut [u32], to: usize)
 
 // The patterns of all n facets, into the first words.
 pub fn get_facets(file: &[u8], n: usize, words: &mut [u32])
-    requires n_value { n ≡ countIn file.now }
+    requires n_value { n ≡ count_in file.now }
     requires n_in_bounds { 84 + n * 50 ≤ length file.now }
     requires n_in_bounds_2 { n * 9 ≤ length words.old }
-    ensures { words.new ≡ splice words.old 0 (pointWords (facetsIn file.now)) }
+    ensures { words.new ≡ splice words.old 0 (point_words (facets_in file.now)) }
 {
     let mut k = 0;
     while k < n {

@@ -1,8 +1,8 @@
 // The facets of polygons: a fan from the first corner of each.
 ghost use Rattle.std.specs.Prelude.{◌≡◌};
-ghost use Rattle.rules.specs.Stl.{facetCount};
+ghost use Rattle.rules.specs.Stl.{facet_count};
 ghost use Rattle.lines.specs.Print.{Printed};
-ghost use Rattle.stl.specs.Steps.{polygonsIn, fanBytes, facetsBytes, FanReady, CountReady, FacetsReady};
+ghost use Rattle.stl.specs.Steps.{polygons_in, fan_bytes, facets_bytes, FanReady, CountReady, FacetsReady};
 
 use crate::header::FACET_BYTES;
 use crate::points::put_facet;
@@ -12,7 +12,7 @@ use stored::vertices::vertex_at;
 // How many facets np polygons of nvp words each have: for each two fewer than its corners.
 pub fn count_facets(nvp: usize, np: usize, polygons: &[u16]) -> usize
     requires { CountReady nvp np polygons.now }
-    ensures { result ≡ facetCount (polygonsIn nvp np polygons.now) }
+    ensures { result ≡ facet_count (polygons_in nvp np polygons.now) }
 {
     let mut n = 0;
     let mut i = 0;
@@ -34,7 +34,7 @@ fn put_fan(
     corners: &[u16],
 ) -> usize
     requires { FanReady size height vertices.now corners.now out.old at }
-    ensures { Printed (fanBytes size height vertices.now corners.now) out.old out.new at result }
+    ensures { Printed (fan_bytes size height vertices.now corners.now) out.old out.new at result }
 {
     let first = vertex_at(vertices, corners[0]);
     let mut to = at;
@@ -61,7 +61,7 @@ pub fn put_facets(
     polygons: &[u16],
 ) -> usize
     requires { FacetsReady size height nvp np vertices.now polygons.now out.old at }
-    ensures { Printed (facetsBytes size height nvp np vertices.now polygons.now) out.old out.new at result }
+    ensures { Printed (facets_bytes size height nvp np vertices.now polygons.now) out.old out.new at result }
 {
     let mut to = at;
     let mut i = 0;

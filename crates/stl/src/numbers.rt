@@ -1,13 +1,13 @@
 // The replies' numbers, as request 11 has them.
 ghost use Rattle.std.specs.Prelude.{◌≡◌};
-ghost use Rattle.rules.specs.StlCall.{stlNumber, stlSecond, unstlNumber, unstlSecond};
+ghost use Rattle.rules.specs.StlCall.{stl_number, stl_second, unstl_number, unstl_second};
 
 use checker::numbers::{fault_number, fault_second};
 use rules::{StlReply, UnstlReply};
 
 // The number of a reply to writing: 0, 40 to 42, 70 or 71.
 pub fn stl_number(reply: StlReply) -> u64
-    ensures { result ≡ stlNumber reply }
+    ensures { result ≡ stl_number reply }
 {
     match reply {
         StlReply::Written(_) => 0,
@@ -19,7 +19,7 @@ pub fn stl_number(reply: StlReply) -> u64
 
 // Its second number: the facets, the first polygon at fault, or 0.
 pub fn stl_second(reply: StlReply) -> u64
-    ensures { result ≡ stlSecond reply }
+    ensures { result ≡ stl_second reply }
 {
     match reply {
         StlReply::Written(n) => n,
@@ -31,7 +31,7 @@ pub fn stl_second(reply: StlReply) -> u64
 
 // The number of a reply to reading: 0, or 71 to 73.
 pub fn unstl_number(reply: UnstlReply) -> u64
-    ensures { result ≡ unstlNumber reply }
+    ensures { result ≡ unstl_number reply }
 {
     match reply {
         UnstlReply::Taken(_) => 0,
@@ -43,7 +43,7 @@ pub fn unstl_number(reply: UnstlReply) -> u64
 
 // Its second number: the facets, the first byte that is not zero, or 0.
 pub fn unstl_second(reply: UnstlReply) -> u64
-    ensures { result ≡ unstlSecond reply }
+    ensures { result ≡ unstl_second reply }
 {
     match reply {
         UnstlReply::Taken(n) => n,

@@ -2,14 +2,14 @@
 ghost use Rattle.std.specs.Prelude.{◌≡◌, ◌+◌, ◌≤◌, T, length};
 ghost use Rattle.mem.specs.Slice.{splice};
 ghost use Rattle.mem.specs.Packed.{packed};
-ghost use Rattle.rules.specs.Stl.{little, coordinate, isLength, point_of, facetOf, facetBytes};
+ghost use Rattle.rules.specs.Stl.{little, coordinate, is_length, point_of, facet_of, facet_bytes};
 
 use crate::bytes::{put_u32, put_zeros};
 use rules::Vertex;
 
 // The pattern of n lengths of mm.
 fn pattern(n: u16, mm: f32) -> u32
-    requires { T (isLength mm) }
+    requires { T (is_length mm) }
     ensures { result ≡ coordinate mm n }
 {
     f32::to_bits(n as f32 * mm)
@@ -17,7 +17,7 @@ fn pattern(n: u16, mm: f32) -> u32
 
 // The four bytes of n lengths of mm, from `at` on.
 fn put_f32(out: &mut [u8], at: usize, n: u16, mm: f32)
-    requires t { T (isLength mm) }
+    requires t { T (is_length mm) }
     requires at_in_bounds { at + 4 ≤ length out.old }
     ensures { out.new ≡ splice out.old at (little (coordinate mm n)) }
 {
@@ -27,8 +27,8 @@ fn put_f32(out: &mut [u8], at: usize, n: u16, mm: f32)
 
 // The three coordinates of a point, from `at` on.
 fn put_point(out: &mut [u8], at: usize, v: Vertex, size: f32, height: f32)
-    requires t { T (isLength size) }
-    requires t_2 { T (isLength height) }
+    requires t { T (is_length size) }
+    requires t_2 { T (is_length height) }
     requires at_in_bounds { at + 12 ≤ length out.old }
     ensures { out.new ≡ splice out.old at (packed little (point_of size height v)) }
 {
@@ -39,10 +39,10 @@ fn put_point(out: &mut [u8], at: usize, v: Vertex, size: f32, height: f32)
 
 // The 50 bytes of a facet, from `at` on.
 pub fn put_facet(out: &mut [u8], at: usize, a: Vertex, b: Vertex, c: Vertex, size: f32, height: f32)
-    requires t { T (isLength size) }
-    requires t_2 { T (isLength height) }
+    requires t { T (is_length size) }
+    requires t_2 { T (is_length height) }
     requires at_in_bounds { at + 50 ≤ length out.old }
-    ensures { out.new ≡ splice out.old at (facetBytes (facetOf size height a b c)) }
+    ensures { out.new ≡ splice out.old at (facet_bytes (facet_of size height a b c)) }
 {
     put_zeros(out, at, 12);
     put_point(out, at + 12, a, size, height);

@@ -1,7 +1,7 @@
 // A file is read: the refusals in their order, and then its facets.
 ghost use Rattle.std.specs.Prelude.{◌≡◌, length, true};
-ghost use Rattle.rules.specs.Stl.{rightLength, facetsRead, facetsIn};
-ghost use Rattle.rules.specs.StlCall.{pointWords, unstlAnswer, unstlReply, unstlLeft, unstlExit};
+ghost use Rattle.rules.specs.Stl.{right_length, facets_read, facets_in};
+ghost use Rattle.rules.specs.StlCall.{point_words, unstl_answer, unstl_reply, unstl_left, unstl_exit};
 
 use crate::bytes::get_u32;
 use crate::facets::{FACET_WORDS, get_facets, right_length};
@@ -11,9 +11,9 @@ use rules::{Found, UnstlReply};
 
 // The facets of a file that has passed 72 and 73; or 71.
 fn take_facets(file: &[u8], words: &mut [u32]) -> UnstlReply
-    requires { rightLength file.now ≡ true }
-    ensures answer { result ≡ unstlAnswer (facetsRead (facetsIn file.now)) (length words.old) }
-    ensures words { words.new ≡ unstlLeft (pointWords (facetsIn file.now)) words.old result }
+    requires { right_length file.now ≡ true }
+    ensures answer { result ≡ unstl_answer (facets_read (facets_in file.now)) (length words.old) }
+    ensures words { words.new ≡ unstl_left (point_words (facets_in file.now)) words.old result }
 {
     let n = get_u32(file, COUNT_AT) as usize;
     if words.len() < n * FACET_WORDS {
@@ -26,8 +26,8 @@ fn take_facets(file: &[u8], words: &mut [u32]) -> UnstlReply
 // A binary STL is read, and the patterns of its facets stand at the beginning of `words`, nine a facet; or the first refusal
 // that applies is given. Any bytes may be handed in.
 pub fn read_stl(file: &[u8], words: &mut [u32]) -> UnstlReply
-    ensures answer { result ≡ unstlReply file.now (length words.old) }
-    ensures words { words.new ≡ unstlExit file.now words.old }
+    ensures answer { result ≡ unstl_reply file.now (length words.old) }
+    ensures words { words.new ≡ unstl_exit file.now words.old }
 {
     if right_length(file) {
         return match first_wrong(file) {

@@ -1,20 +1,20 @@
 // Size and height in millimetres, and refusal 70.
 ghost use Rattle.std.specs.Prelude.{◌≡◌};
-ghost use Rattle.rules.specs.Units.{sizeIn, millimetres};
-ghost use Rattle.rules.specs.Stl.{isLength};
+ghost use Rattle.rules.specs.Units.{size_in, millimetres};
+ghost use Rattle.rules.specs.Stl.{is_length};
 
 use plane::unit::{cell_size, to_millimetres};
 
 // A size or a height in millimetres.
 pub fn in_millimetres(inches: bool, x: f32) -> f32
-    ensures { result ≡ millimetres (sizeIn inches x) }
+    ensures { result ≡ millimetres (size_in inches x) }
 {
     to_millimetres(cell_size(inches, x))
 }
 
 // Whether a length in millimetres is finite and above zero.
 pub fn is_length(mm: f32) -> bool
-    ensures { result ≡ isLength mm }
+    ensures { result ≡ is_length mm }
 {
     mm > 0.0 && mm < 1.0 / 0.0
 }

@@ -1,10 +1,10 @@
 // A mesh becomes a file: the refusals in their order, and then its bytes.
 ghost use Rattle.std.specs.Prelude.{◌≡◌, cond, length};
-ghost use Rattle.rules.specs.Stl.{size_of, heightOf, isScale};
-ghost use Rattle.rules.specs.StlCall.{roomReply, stlLeft, stlReply, stlExit};
+ghost use Rattle.rules.specs.Stl.{size_of, height_of, is_scale};
+ghost use Rattle.rules.specs.StlCall.{room_reply, stl_left, stl_reply, stl_exit};
 ghost use Rattle.rules.specs.declared.StlReply.TheVariants.{BadScale};
-ghost use Rattle.checker.specs.Asked.{handedIn};
-ghost use Rattle.stl.specs.Steps.{scaleIn, count_of, fileIn, MeshSound, FileReady};
+ghost use Rattle.checker.specs.Asked.{handed_in};
+ghost use Rattle.stl.specs.Steps.{scale_in, count_of, file_in, MeshSound, FileReady};
 
 use crate::fans::{count_facets, put_facets};
 use crate::header::{FACET_BYTES, FRONT_BYTES, put_header};
@@ -22,8 +22,8 @@ fn put_file(
     file: &mut [u8],
 ) -> StlReply
     requires { FileReady size height nvp vertices.now polygons.now }
-    ensures answer { result ≡ roomReply (count_of nvp polygons.now) (length file.old) }
-    ensures bytes { file.new ≡ stlLeft (fileIn size height nvp vertices.now polygons.now) file.old result }
+    ensures answer { result ≡ room_reply (count_of nvp polygons.now) (length file.old) }
+    ensures bytes { file.new ≡ stl_left (file_in size height nvp vertices.now polygons.now) file.old result }
 {
     let np = polygons.len() / nvp;
     let n = count_facets(nvp, np, polygons);
@@ -46,10 +46,10 @@ fn write_sound(
     file: &mut [u8],
 ) -> StlReply
     requires { MeshSound nvp vertices.now polygons.now }
-    ensures answer { result ≡ cond (isScale (scaleIn inches size height))
-        (roomReply (count_of nvp polygons.now) (length file.old)) BadScale }
-    ensures bytes { file.new ≡ (let s = scaleIn inches size height in
-        stlLeft (fileIn (size_of s) (heightOf s) nvp vertices.now polygons.now) file.old result) }
+    ensures answer { result ≡ cond (is_scale (scale_in inches size height))
+        (room_reply (count_of nvp polygons.now) (length file.old)) BadScale }
+    ensures bytes { file.new ≡ (let s = scale_in inches size height in
+        stl_left (file_in (size_of s) (height_of s) nvp vertices.now polygons.now) file.old result) }
 {
     let across = in_millimetres(inches, size);
     let up = in_millimetres(inches, height);
@@ -71,10 +71,10 @@ pub fn write_stl(
     links: &[u32],
     file: &mut [u8],
 ) -> StlReply
-    ensures answer { result ≡ stlReply (handedIn nvp vertices.now polygons.now links.now) (scaleIn inches size height)
+    ensures answer { result ≡ stl_reply (handed_in nvp vertices.now polygons.now links.now) (scale_in inches size height)
         (length file.old) }
-    ensures bytes { file.new ≡ stlExit (handedIn nvp vertices.now polygons.now links.now)
-        (scaleIn inches size height) file.old }
+    ensures bytes { file.new ≡ stl_exit (handed_in nvp vertices.now polygons.now links.now)
+        (scale_in inches size height) file.old }
 {
     let sound = soundness_of(nvp, vertices, polygons, links);
     match sound {

@@ -1,12 +1,12 @@
 // Where zero is due, and refusal 73.
 ghost use Rattle.std.specs.Prelude.{◌≡◌, ◌<◌, length};
-ghost use Rattle.rules.specs.Stl.{zeroDue, wrongAt, firstWrong};
+ghost use Rattle.rules.specs.Stl.{zero_due, wrong_at, first_wrong};
 
 use rules::Found;
 
 // Whether byte i of a file is to be zero.
 fn zero_due(i: usize) -> bool
-    ensures { result ≡ zeroDue i }
+    ensures { result ≡ zero_due i }
 {
     if i < 80 {
         return true;
@@ -24,7 +24,7 @@ fn zero_due(i: usize) -> bool
 // Whether byte i is not zero where zero is due.
 fn wrong_at(file: &[u8], i: usize) -> bool
     requires { i < length file.now }
-    ensures { result ≡ wrongAt file.now i }
+    ensures { result ≡ wrong_at file.now i }
 {
     if zero_due(i) {
         return file[i] != 0;
@@ -34,7 +34,7 @@ fn wrong_at(file: &[u8], i: usize) -> bool
 
 // The first byte that is not zero where zero is due.
 pub fn first_wrong(file: &[u8]) -> Found
-    ensures { result ≡ firstWrong file.now }
+    ensures { result ≡ first_wrong file.now }
 {
     let mut i = 0;
     while i < file.len() {

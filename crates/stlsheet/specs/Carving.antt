@@ -1,46 +1,46 @@
 -- What is written for a stored mesh, for a reply of the build and for a job; and what that asks for. Definitions only.
 use Rattle.std.specs.Prelude.{◌≡◌, List, ℕ, ◌*◌, ◌≤◌, length, take}
 use Prim.{Unit}
-use Rattle.rules.specs.Checks.{vertexStride}
-use Rattle.rules.specs.Replies.{refusalNumber, refusalSecond}
-use Rattle.rules.specs.Job.{sumOver}
-use Rattle.rules.specs.Sheet.{declaredMost, outcomeOf, refusedText}
-use Rattle.rules.specs.Handed.{faultNumber, faultSecond}
-use Rattle.rules.specs.StlCall.{meshFile, stlReply}
-use Rattle.rules.specs.StlText.{scale_of, carvedText}
+use Rattle.rules.specs.Checks.{vertex_stride}
+use Rattle.rules.specs.Replies.{refusal_number, refusal_second}
+use Rattle.rules.specs.Job.{sum_over}
+use Rattle.rules.specs.Sheet.{declared_most, outcome_of, refused_text}
+use Rattle.rules.specs.Handed.{fault_number, fault_second}
+use Rattle.rules.specs.StlCall.{mesh_file, stl_reply}
+use Rattle.rules.specs.StlText.{scale_of, carved_text}
 use Rattle.rules.specs.declared.Reply.{Reply}
 use Rattle.rules.specs.declared.Reply.TheVariants.{Built, Refused}
 use Rattle.rules.specs.declared.StlReply.{StlReply}
 use Rattle.rules.specs.declared.StlReply.TheVariants.{Written, BadMesh, BadScale, ShortFile}
-use Rattle.checker.specs.Asked.{handedIn}
+use Rattle.checker.specs.Asked.{handed_in}
 use Rattle.sheet.specs.declared.heading.Heading.{Heading}
-use Rattle.sheet.specs.Reading.{sheetOf, withLists}
-use Rattle.sheet.specs.Room.{outMost}
+use Rattle.sheet.specs.Reading.{sheet_of, with_lists}
+use Rattle.sheet.specs.Room.{out_most}
 
 -- the file, or the refusal's line
-unfoldable pub writtenText : List ℕ → StlReply → List ℕ
-writtenText file (Written n) = file
-writtenText file (BadMesh f) = refusedText (faultNumber f) (faultSecond f)
-writtenText file BadScale = refusedText 70 0
-writtenText file ShortFile = refusedText 71 0
+unfoldable pub written_text : List ℕ → StlReply → List ℕ
+written_text file (Written n) = file
+written_text file (BadMesh f) = refused_text (fault_number f) (fault_second f)
+written_text file BadScale = refused_text 70 0
+written_text file ShortFile = refused_text 71 0
 
 -- for the mesh of n polygons and k vertices in some buffers, with this many bytes lent
-unfoldable pub carvedIn : Heading → ℕ → ℕ → List ℕ → List ℕ → List ℕ → ℕ → List ℕ
-carvedIn x n k vs ps ls room =
-    let m = handedIn x.nvp (take (k * vertexStride) vs) (take (n * x.nvp) ps) (take (n * x.nvp) ls) in
+unfoldable pub carved_in : Heading → ℕ → ℕ → List ℕ → List ℕ → List ℕ → ℕ → List ℕ
+carved_in x n k vs ps ls room =
+    let m = handed_in x.nvp (take (k * vertex_stride) vs) (take (n * x.nvp) ps) (take (n * x.nvp) ls) in
     let s = scale_of x.inches x.size x.height in
-    writtenText (meshFile m s) (stlReply m s room)
+    written_text (mesh_file m s) (stl_reply m s room)
 
 pub record CarveReady (x : Heading) (n k : ℕ) (vs ps ls out : List ℕ) : Type 0 where
-  pub vertices : k * vertexStride ≤ length vs
+  pub vertices : k * vertex_stride ≤ length vs
   pub polygons : n * x.nvp ≤ length ps
   pub links : n * x.nvp ≤ length ls
-  pub room : length out ≡ outMost
+  pub room : length out ≡ out_most
 
 -- for a reply of the build
-unfoldable pub replyFile : Heading → Reply → List ℕ → List ℕ → List ℕ → List ℕ
-replyFile x (Refused r) vs ps ls = refusedText (refusalNumber r) (refusalSecond r)
-replyFile x (Built n k) vs ps ls = carvedIn x n k vs ps ls outMost
+unfoldable pub reply_file : Heading → Reply → List ℕ → List ℕ → List ℕ → List ℕ
+reply_file x (Refused r) vs ps ls = refused_text (refusal_number r) (refusal_second r)
+reply_file x (Built n k) vs ps ls = carved_in x n k vs ps ls out_most
 
 unfoldable pub StandsFor : Heading → Reply → List ℕ → List ℕ → List ℕ → List ℕ → Type 0
 StandsFor x (Refused r) vs ps ls out = Unit {0}
@@ -48,13 +48,13 @@ StandsFor x (Built n k) vs ps ls out = CarveReady x n k vs ps ls out
 
 pub record ReplyReady (x : Heading) (reply : Reply) (vs ps ls out : List ℕ) : Type 0 where
   pub stands : StandsFor x reply vs ps ls out
-  pub room : length out ≡ outMost
+  pub room : length out ≡ out_most
 
 -- at most 96 vertices are declared, and the output has its length
 pub record CarveJobReady (ls out : List ℕ) : Type 0 where
-  pub few : sumOver (λ n. n) ls ≤ declaredMost
-  pub room : length out ≡ outMost
+  pub few : sum_over (λ n. n) ls ≤ declared_most
+  pub room : length out ≡ out_most
 
 -- for a heading and the contours behind it
-unfoldable pub jobFile : Heading → List ℕ → List ℕ → List ℕ → List ℕ → List ℕ
-jobFile x ls rs cs ns = let s = withLists (sheetOf x) ls rs cs ns in carvedText s (outcomeOf s.job)
+unfoldable pub job_file : Heading → List ℕ → List ℕ → List ℕ → List ℕ → List ℕ
+job_file x ls rs cs ns = let s = with_lists (sheet_of x) ls rs cs ns in carved_text s (outcome_of s.job)

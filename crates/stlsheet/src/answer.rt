@@ -1,8 +1,8 @@
 // A job is built, and becomes a file.
 ghost use Rattle.std.specs.Prelude.{◌≤◌};
 ghost use Rattle.lines.specs.Print.{Printed};
-ghost use Rattle.sheet.specs.Room.{outMost};
-ghost use Rattle.stlsheet.specs.Carving.{ReplyReady, replyFile, CarveJobReady, jobFile};
+ghost use Rattle.sheet.specs.Room.{out_most};
+ghost use Rattle.stlsheet.specs.Carving.{ReplyReady, reply_file, CarveJobReady, job_file};
 
 use crate::file::put_carved;
 use polymesh::mesh::into_polygon_mesh;
@@ -22,7 +22,7 @@ fn put_reply(
     out: &mut [u8],
 ) -> usize
     requires { ReplyReady x reply vertices.now polygons.now neighbours.now out.old }
-    ensures { Printed (replyFile x reply vertices.now polygons.now neighbours.now)
+    ensures { Printed (reply_file x reply vertices.now polygons.now neighbours.now)
         out.old out.new 0 result }
 {
     match reply {
@@ -45,9 +45,9 @@ pub fn carve_job(
     out: &mut [u8],
 ) -> usize
     requires { CarveJobReady lengths.now out.old }
-    ensures printed { Printed (jobFile x lengths.now regions.now codes.now numbers.now)
+    ensures printed { Printed (job_file x lengths.now regions.now codes.now numbers.now)
         out.old out.new 0 result }
-    ensures short { result ≤ outMost }
+    ensures short { result ≤ out_most }
 {
     let mut vertices = [0u16; 288];
     let mut polygons = [0u16; 1152];

@@ -1,7 +1,7 @@
 // A stored mesh becomes a file.
 ghost use Rattle.std.specs.Prelude.{length};
 ghost use Rattle.lines.specs.Print.{Printed};
-ghost use Rattle.stlsheet.specs.Carving.{CarveReady, carvedIn};
+ghost use Rattle.stlsheet.specs.Carving.{CarveReady, carved_in};
 
 use checker::numbers::{fault_number, fault_second};
 use plane::unit::thousandths;
@@ -22,7 +22,7 @@ pub fn put_carved(
     out: &mut [u8],
 ) -> usize
     requires { CarveReady x n k vertices.now polygons.now neighbours.now out.old }
-    ensures { Printed (carvedIn x n k vertices.now polygons.now neighbours.now (length out.old))
+    ensures { Printed (carved_in x n k vertices.now polygons.now neighbours.now (length out.old))
         out.old out.new 0 result }
 {
     let rows = n * x.nvp as usize;

@@ -1,6 +1,6 @@
 // A sheet becomes a file.
 ghost use Rattle.std.specs.Prelude.{◌≤◌, ◌≡◌, length, take};
-ghost use Rattle.rules.specs.StlText.{stlText};
+ghost use Rattle.rules.specs.StlText.{stl_text};
 ghost use Rattle.lines.specs.Print.{Printed};
 
 use crate::answer::carve_job;
@@ -10,7 +10,7 @@ use sheet::rows::put_refused;
 // What is written for a sheet: its bytes in, and the file, or the refusal's line, at the beginning of `out`. Any bytes may be handed in.
 // The answer is its length.
 pub fn stl_sheet(text: &[u8], out: &mut [u8; 65536]) -> usize
-    ensures printed { Printed (stlText text.now) out.old out.new 0 result }
+    ensures printed { Printed (stl_text text.now) out.old out.new 0 result }
     ensures counted { (result ≤ length out.new) × (result ≡ length (take result out.new)) }
 {
     let mut lengths = [0u32; 32];

@@ -3,8 +3,8 @@ ghost use Rattle.std.specs.Prelude.{◌≡◌};
 ghost use Rattle.mem.specs.Slice.{splice};
 ghost use Rattle.mem.specs.Packed.{packed};
 ghost use Rattle.rules.specs.Plane.{area};
-ghost use Rattle.rules.specs.Areas.{storedArea};
-ghost use Rattle.stored.specs.Stored.{storedIn, places_of, placeWords, PlacesReady, PolygonReady, MeshReady};
+ghost use Rattle.rules.specs.Areas.{stored_area};
+ghost use Rattle.stored.specs.Stored.{stored_in, places_of, place_words, PlacesReady, PolygonReady, MeshReady};
 
 use crate::corners::count_corners;
 use plane::measure::doubled_area;
@@ -13,7 +13,7 @@ use rules::VERTEX_STRIDE;
 // The places of these corners go to the beginning of pts, as words x, z, x, z, ..
 fn put_places(vertices: &[u16], corners: &[u16], pts: &mut [u32])
     requires { PlacesReady vertices.now corners.now pts.old }
-    ensures { pts.new ≡ splice pts.old 0 (packed placeWords (places_of vertices.now corners.now)) }
+    ensures { pts.new ≡ splice pts.old 0 (packed place_words (places_of vertices.now corners.now)) }
 {
     let mut c = 0;
     while c < corners.len() {
@@ -37,7 +37,7 @@ fn polygon_area(vertices: &[u16], corners: &[u16]) -> i64
 // The doubled area of n stored polygons of nvp words each, over k stored vertices.
 pub fn mesh_area(nvp: usize, n: usize, k: usize, vertices: &[u16], polygons: &[u16]) -> i64
     requires { MeshReady nvp n k vertices.now polygons.now }
-    ensures { result ≡ storedArea (storedIn nvp n k vertices.now polygons.now) }
+    ensures { result ≡ stored_area (stored_in nvp n k vertices.now polygons.now) }
 {
     let mut sum = 0i64;
     let mut i = 0;

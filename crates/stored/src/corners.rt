@@ -1,13 +1,13 @@
 // The corners of a stored polygon.
 ghost use Rattle.std.specs.Prelude.{◌≡◌, length, take};
-ghost use Rattle.rules.specs.Exits.{upToNone};
+ghost use Rattle.rules.specs.Exits.{up_to_none};
 
 // What stands in the words past a polygon's last corner.
 pub const UNUSED: u16 = 65535;
 
 // How many of a stored polygon's words are corners: those before the first 65,535.
 pub fn count_corners(row: &[u16]) -> usize
-    ensures { (result ≡ length (upToNone row.now)) × (take result row.now ≡ upToNone row.now) }
+    ensures { (result ≡ length (up_to_none row.now)) × (take result row.now ≡ up_to_none row.now) }
 {
     let mut c = 0;
     while c < row.len() {

@@ -11,84 +11,84 @@ use lib.Dec.{ltb}
 use lib.ListN.{length, get_or, set, length-append}
 use lib.Seq.{get_or-take, get_or-set_same, get_or-set_other}
 use Rattle.mem.specs.Slice.{splice}
-use Rattle.mem.specs.Tab.{blocks-after}
-use Rattle.mem.specs.Loops.{times, times-ind}
-use Rattle.mem.specs.Packed.{every-at}
-use Rattle.rules.specs.Lists.{swapRemove}
-use Rattle.rules.specs.Mesh.{Polygon, noPolygon, polygonAt}
-use Rattle.rules.specs.Removal.{holds, untouched, TakingOut, takeOne, takenOut, sidesLeft}
+use Rattle.mem.specs.Tab.{blocks_after}
+use Rattle.mem.specs.Loops.{times, times_ind}
+use Rattle.mem.specs.Packed.{every_at}
+use Rattle.rules.specs.Lists.{swap_remove}
+use Rattle.rules.specs.Mesh.{Polygon, no_polygon, polygon_at}
+use Rattle.rules.specs.Removal.{holds, untouched, TakingOut, take_one, taken_out, sides_left}
 use Rattle.rules.specs.Fuel.{taking}
-use Rattle.laws.specs.Lists.{swap-length}
-use Rattle.laws.specs.Removal.{length-sides}
-use Rattle.laws.specs.Fuel.{taking-turns, taken_out}
-use Rattle.records.specs.Layout.{polygonSize, polygonIn, polygonsAt, Small, mostCorners, sideSize, sideRecords}
-use Rattle.records.specs.Values.{polygonOf, Loaded}
-use Rattle.records.specs.Polygons.{length-polygons, loaded-of}
-use Rattle.records.specs.Fixed.{side-fixed, fixed-are}
+use Rattle.laws.specs.Lists.{swap_length}
+use Rattle.laws.specs.Removal.{length_sides}
+use Rattle.laws.specs.Fuel.{taking_turns, taken_out_lem}
+use Rattle.records.specs.Layout.{polygon_size, polygon_in, polygons_at, Small, most_corners, side_size, side_records}
+use Rattle.records.specs.Values.{polygon_of, Loaded}
+use Rattle.records.specs.Polygons.{length_polygons, loaded_of}
+use Rattle.records.specs.Fixed.{side_fixed, fixed_are}
 use Rattle.records.specs.declared.polygon.Poly.{Poly}
-use Rattle.trails.specs.Sides.{droppedWords, Laid, CollectReady, Collected}
+use Rattle.trails.specs.Sides.{dropped_words, Laid, CollectReady, Collected}
 use Rattle.trails.proofs.Given.{laid_none, laid_more}
 
 -- ---- a list whose element at i goes: the last stands at i, and the others where they stood
 module _ {A : Type 0} (d : A) (l : List A) (i : ℕ) where
-  swap-here : i < length l - 1 → get_or (swapRemove d l i) i d ≡ get_or l (length l - 1) d
-  unfolding swapRemove
-  swap-here h = get_or-take (length l - 1) (set l i (get_or l (length l - 1) d)) i d h ∙ get_or-set_same l i (get_or l (length l - 1) d) d (omega arith)
+  swap_here : i < length l - 1 → get_or (swap_remove d l i) i d ≡ get_or l (length l - 1) d
+  unfolding swap_remove
+  swap_here h = get_or-take (length l - 1) (set l i (get_or l (length l - 1) d)) i d h ∙ get_or-set_same l i (get_or l (length l - 1) d) d (omega arith)
 
-  swap-other : (j : ℕ) → j < length l - 1 → j ≢ i → get_or (swapRemove d l i) j d ≡ get_or l j d
-  unfolding swapRemove
-  swap-other j h n = get_or-take (length l - 1) (set l i (get_or l (length l - 1) d)) j d h ∙ get_or-set_other l i j (get_or l (length l - 1) d) d n
+  swap_other : (j : ℕ) → j < length l - 1 → j ≢ i → get_or (swap_remove d l i) j d ≡ get_or l j d
+  unfolding swap_remove
+  swap_other j h n = get_or-take (length l - 1) (set l i (get_or l (length l - 1) d)) j d h ∙ get_or-set_other l i j (get_or l (length l - 1) d) d n
 
 -- ---- a polygon is looked at
 module _ (rem : ℕ) (s : TakingOut) where
-  take-held : ltb 0 (holds rem (polygonAt s.polygons s.at)) ≡ true
-      → takeOne rem s
-      ≡ record { polygons = swapRemove noPolygon s.polygons s.at; sides = s.sides ++ untouched rem (polygonAt s.polygons s.at); at = s.at }
-  unfolding takeOne
-  take-held e = rw (e, takeOne) refl
+  take_held : ltb 0 (holds rem (polygon_at s.polygons s.at)) ≡ true
+      → take_one rem s
+      ≡ record { polygons = swap_remove no_polygon s.polygons s.at; sides = s.sides ++ untouched rem (polygon_at s.polygons s.at); at = s.at }
+  unfolding take_one
+  take_held e = rw (e, take_one) refl
 
-  take-free : ltb 0 (holds rem (polygonAt s.polygons s.at)) ≡ false
-      → takeOne rem s ≡ record { polygons = s.polygons; sides = s.sides; at = s.at + 1 }
-  unfolding takeOne
-  take-free e = rw (e, takeOne) refl
+  take_free : ltb 0 (holds rem (polygon_at s.polygons s.at)) ≡ false
+      → take_one rem s ≡ record { polygons = s.polygons; sides = s.sides; at = s.at + 1 }
+  unfolding take_one
+  take_free e = rw (e, take_one) refl
 
   -- sides are only added
-  one_grows : length s.sides ≤ length (takeOne rem s).sides
-  unfolding takeOne
+  one_grows : length s.sides ≤ length (take_one rem s).sides
+  unfolding take_one
   one_grows =
-      let p = polygonAt s.polygons s.at in
-      let less : TakingOut = record { polygons = swapRemove noPolygon s.polygons s.at; sides = s.sides ++ untouched rem p; at = s.at } in
+      let p = polygon_at s.polygons s.at in
+      let less : TakingOut = record { polygons = swap_remove no_polygon s.polygons s.at; sides = s.sides ++ untouched rem p; at = s.at } in
       let next : TakingOut = record { polygons = s.polygons; sides = s.sides; at = s.at + 1 } in
       elim (ltb 0 (holds rem p)) as (λ t. length s.sides ≤ length (elim t as (λ b. TakingOut) [ true ↦ less | false ↦ next ]).sides) [
         | true ↦ omega (arith, length-append s.sides (untouched rem p))
         | false ↦ le_refl (length s.sides)
       ]
 
-grows : (rem f : ℕ) (s : TakingOut) → length s.sides ≤ length (times (takeOne rem) f s).sides
+grows : (rem f : ℕ) (s : TakingOut) → length s.sides ≤ length (times (take_one rem) f s).sides
 grows rem f s =
-    times-ind (takeOne rem) (λ (t : TakingOut). length s.sides ≤ length t.sides)
+    times_ind (take_one rem) (λ (t : TakingOut). length s.sides ≤ length t.sides)
     (λ t (h : length s.sides ≤ length t.sides). omega (arith, one_grows rem t)) f s (le_refl (length s.sides))
 
 -- ---- m of the polygons ps are left, polygon k stands at place i of them, and n sides are written at q: R5 from there on gives the whole
 pub record Collecting (rem : ℕ) (ps : List Polygon) (v w : List ℕ) (q n m i k : ℕ) : Type 0 where
   pub state : TakingOut
-  pub same : takenOut rem ps ≡ taking rem state
+  pub same : taken_out rem ps ≡ taking rem state
   pub place : state.at ≡ i
   pub many : length state.polygons ≡ m
-  pub here : i < m → polygonAt state.polygons i ≡ polygonAt ps k
-  pub above : (j : ℕ) → i < j → j < m → polygonAt state.polygons j ≡ polygonAt ps j
+  pub here : i < m → polygon_at state.polygons i ≡ polygon_at ps k
+  pub above : (j : ℕ) → i < j → j < m → polygon_at state.polygons j ≡ polygon_at ps j
   pub within : i ≤ m
   pub fewer : m ≤ length ps
   pub number : i < m → k < length ps
   pub laid : Laid rem state.sides v w q n
   pub long : length w ≡ length v
-  pub room : q + length (takenOut rem ps).sides * sideSize ≤ length v
+  pub room : q + length (taken_out rem ps).sides * side_size ≤ length v
 
-pub collecting-none : (rem : ℕ) (ps : List Polygon) (v : List ℕ) (q m : ℕ) → length ps ≡ m → q + length (takenOut rem ps).sides * sideSize ≤ length v
+pub collecting_none : (rem : ℕ) (ps : List Polygon) (v : List ℕ) (q m : ℕ) → length ps ≡ m → q + length (taken_out rem ps).sides * side_size ≤ length v
     → Collecting rem ps v v q 0 m 0 0
-collecting-none rem ps v q m e r = record {
+collecting_none rem ps v q m e r = record {
   state = record { polygons = ps; sides = []; at = 0 };
-  same = taken_out rem ps;
+  same = taken_out_lem rem ps;
   place = refl;
   many = e;
   here = λ h. refl;
@@ -102,46 +102,46 @@ collecting-none rem ps v q m e r = record {
 }
 
 module _ {rem : ℕ} {ps : List Polygon} {v w : List ℕ} {q n m i k : ℕ} (c : Collecting rem ps v w q n m i k) (h : i < m) where
-  looked : takenOut rem ps ≡ taking rem (takeOne rem c.state)
-  looked = c.same ∙ (taking-turns rem c.state).look (omega (arith, c.place, c.many))
+  looked : taken_out rem ps ≡ taking rem (take_one rem c.state)
+  looked = c.same ∙ (taking_turns rem c.state).look (omega (arith, c.place, c.many))
 
   -- the polygon looked at is number k
-  is-k : polygonAt c.state.polygons c.state.at ≡ polygonAt ps k
-  is-k = ap (polygonAt c.state.polygons) c.place ∙ c.here h
+  is_k : polygon_at c.state.polygons c.state.at ≡ polygon_at ps k
+  is_k = ap (polygon_at c.state.polygons) c.place ∙ c.here h
 
   -- it holds the vertex, and p is its value
-  module _ {p : Poly} (l : Loaded (polygonAt ps k) p) (e : ltb 0 (holds rem (polygonAt ps k)) ≡ true) where
-    is-p : polygonAt c.state.polygons c.state.at ≡ polygonOf p
-    is-p = is-k ∙ sym (loaded-of l)
+  module _ {p : Poly} (l : Loaded (polygon_at ps k) p) (e : ltb 0 (holds rem (polygon_at ps k)) ≡ true) where
+    is_p : polygon_at c.state.polygons c.state.at ≡ polygon_of p
+    is_p = is_k ∙ sym (loaded_of l)
 
     after : TakingOut
-    after = record { polygons = swapRemove noPolygon c.state.polygons i; sides = c.state.sides ++ untouched rem (polygonOf p); at = i }
+    after = record { polygons = swap_remove no_polygon c.state.polygons i; sides = c.state.sides ++ untouched rem (polygon_of p); at = i }
 
-    to-after : takeOne rem c.state ≡ after
+    to_after : take_one rem c.state ≡ after
     unfolding after
-    to-after = take-held rem c.state (rw is-k e) ∙ rw (is-p, c.place) refl
+    to_after = take_held rem c.state (rw is_k e) ∙ rw (is_p, c.place) refl
 
-    taken : takenOut rem ps ≡ taking rem after
-    taken = looked ∙ ap (λ (t : TakingOut). taking rem t) to-after
+    taken : taken_out rem ps ≡ taking rem after
+    taken = looked ∙ ap (λ (t : TakingOut). taking rem t) to_after
 
-    pub collecting-room : q + n * sideSize + length (untouched rem (polygonOf p)) * sideSize ≤ length w
+    pub collecting_room : q + n * side_size + length (untouched rem (polygon_of p)) * side_size ≤ length w
     unfolding after
-    collecting-room = omega (
+    collecting_room = omega (
       arith,
       ap (λ (t : TakingOut). length t.sides) taken,
       grows rem (length after.polygons - i) after,
-      length-append c.state.sides (untouched rem (polygonOf p)),
+      length-append c.state.sides (untouched rem (polygon_of p)),
       c.laid.count,
       c.long,
       c.room,
     )
 
-    pub collecting-more : {u : List ℕ} {r : ℕ} → Laid rem (untouched rem (polygonOf p)) w u (q + n * sideSize) r → length u ≡ length w
+    pub collecting_more : {u : List ℕ} {r : ℕ} → Laid rem (untouched rem (polygon_of p)) w u (q + n * side_size) r → length u ≡ length w
         → Collecting rem ps v u q (n + r) (m - 1) i (m - 1)
     unfolding after
-    collecting-more d z =
+    collecting_more d z =
         let b = c.state.polygons in
-        let f : length (swapRemove noPolygon b i) ≡ m - 1 = swap-length noPolygon b i ∙ ap (λ (j : ℕ). j - 1) c.many in
+        let f : length (swap_remove no_polygon b i) ≡ m - 1 = swap_length no_polygon b i ∙ ap (λ (j : ℕ). j - 1) c.many in
         let g = c.many in
         let last : length b - 1 ≡ m - 1 = omega arith in
         record {
@@ -149,8 +149,8 @@ module _ {rem : ℕ} {ps : List Polygon} {v w : List ℕ} {q n m i k : ℕ} (c :
           same = taken;
           place = refl;
           many = f;
-          here = λ (a : i < m - 1). swap-here noPolygon b i (omega arith) ∙ rw last (c.above (m - 1) a (omega arith));
-          above = λ (j : ℕ) (a : i < j) (y : j < m - 1). swap-other noPolygon b i j (omega arith) (λ (t : j ≡ i). omega arith) ∙ c.above j a (omega arith);
+          here = λ (a : i < m - 1). swap_here no_polygon b i (omega arith) ∙ rw last (c.above (m - 1) a (omega arith));
+          above = λ (j : ℕ) (a : i < j) (y : j < m - 1). swap_other no_polygon b i j (omega arith) (λ (t : j ≡ i). omega arith) ∙ c.above j a (omega arith);
           within = omega arith;
           fewer = omega (arith, c.fewer);
           number = λ (a : i < m - 1). omega (arith, c.fewer);
@@ -159,10 +159,10 @@ module _ {rem : ℕ} {ps : List Polygon} {v w : List ℕ} {q n m i k : ℕ} (c :
           room = c.room;
         }
 
-  pub collecting-past : ltb 0 (holds rem (polygonAt ps k)) ≡ false → Collecting rem ps v w q n m (i + 1) (i + 1)
-  collecting-past e =
+  pub collecting_past : ltb 0 (holds rem (polygon_at ps k)) ≡ false → Collecting rem ps v w q n m (i + 1) (i + 1)
+  collecting_past e =
       let next : TakingOut = record { polygons = c.state.polygons; sides = c.state.sides; at = i + 1 } in
-      let to : takeOne rem c.state ≡ next = take-free rem c.state (rw is-k e) ∙ rw c.place refl in
+      let to : take_one rem c.state ≡ next = take_free rem c.state (rw is_k e) ∙ rw c.place refl in
       record {
         state = next;
         same = looked ∙ ap (λ (t : TakingOut). taking rem t) to;
@@ -180,46 +180,46 @@ module _ {rem : ℕ} {ps : List Polygon} {v w : List ℕ} {q n m i k : ℕ} (c :
 
 -- ---- the polygons of the buffer
 module _ {w : List ℕ} {o np q rem : ℕ} (r : CollectReady w o np q rem) where
-  pub collecting-begin : Collecting rem (polygonsAt w o np) w w q 0 np 0 0
-  collecting-begin =
-      let e = length-sides rem (polygonsAt w o np) in
-      collecting-none rem (polygonsAt w o np) w q np (length-polygons w o np) (rw (← e) r.room)
+  pub collecting_begin : Collecting rem (polygons_at w o np) w w q 0 np 0 0
+  collecting_begin =
+      let e = length_sides rem (polygons_at w o np) in
+      collecting_none rem (polygons_at w o np) w q np (length_polygons w o np) (rw (← e) r.room)
 
-  module _ {u : List ℕ} {n m i k : ℕ} (c : Collecting rem (polygonsAt w o np) w u q n m i k) where
+  module _ {u : List ℕ} {n m i k : ℕ} (c : Collecting rem (polygons_at w o np) w u q n m i k) where
     -- they are as they were
-    same-polygons : polygonsAt u o np ≡ polygonsAt w o np
-    unfolding polygonsAt
-    same-polygons =
-        ap (λ (x : List ℕ). polygonsAt x o np) c.laid.is
-        ∙ blocks-after polygonIn w q o polygonSize np (droppedWords rem c.state.sides) r.behind
+    same_polygons : polygons_at u o np ≡ polygons_at w o np
+    unfolding polygons_at
+    same_polygons =
+        ap (λ (x : List ℕ). polygons_at x o np) c.laid.is
+        ∙ blocks_after polygon_in w q o polygon_size np (dropped_words rem c.state.sides) r.behind
 
-    pub fits-now : o + np * polygonSize ≤ length u
-    fits-now = omega (arith, r.behind, c.room, c.long)
+    pub fits_now : o + np * polygon_size ≤ length u
+    fits_now = omega (arith, r.behind, c.room, c.long)
 
-    pub few-now : m ≤ np
-    few-now = omega (arith, c.fewer, length-polygons w o np)
+    pub few_now : m ≤ np
+    few_now = omega (arith, c.fewer, length_polygons w o np)
 
-    pub number-now : i < m → k < np
-    number-now h = omega (arith, c.number h, length-polygons w o np)
+    pub number_now : i < m → k < np
+    number_now h = omega (arith, c.number h, length_polygons w o np)
 
-    pub small-now : (j : ℕ) → length (polygonAt (polygonsAt u o np) j).corners ≤ mostCorners
-    small-now j = rw same-polygons (every-at Small noPolygon (polygonsAt w o np) r.small j)
+    pub small_now : (j : ℕ) → length (polygon_at (polygons_at u o np) j).corners ≤ most_corners
+    small_now j = rw same_polygons (every_at Small no_polygon (polygons_at w o np) r.small j)
 
-    pub held-now : {t : Bool} → t ≡ ltb 0 (holds rem (polygonAt (polygonsAt u o np) k)) → ltb 0 (holds rem (polygonAt (polygonsAt w o np) k)) ≡ t
-    held-now e = sym (rw same-polygons at e)
+    pub held_now : {t : Bool} → t ≡ ltb 0 (holds rem (polygon_at (polygons_at u o np) k)) → ltb 0 (holds rem (polygon_at (polygons_at w o np) k)) ≡ t
+    held_now e = sym (rw same_polygons at e)
 
-    pub loaded-now : {p : Poly} → Loaded (polygonAt (polygonsAt u o np) k) p → Loaded (polygonAt (polygonsAt w o np) k) p
-    loaded-now l = rw same-polygons at l
+    pub loaded_now : {p : Poly} → Loaded (polygon_at (polygons_at u o np) k) p → Loaded (polygon_at (polygons_at w o np) k) p
+    loaded_now l = rw same_polygons at l
 
-    pub collecting-end : m ≤ i → Collected w u o np q rem n
-    unfolding sidesLeft droppedWords
-    collecting-end h =
-        let ps = polygonsAt w o np in
-        let e : takenOut rem ps ≡ c.state = c.same ∙ (taking-turns rem c.state).end (omega (arith, c.place, c.many)) in
-        let many : n ≡ length (sidesLeft rem ps) = c.laid.count ∙ ap (λ (t : TakingOut). length t.sides) (sym e) ∙ sym (length-sides rem ps) in
-        let put : u ≡ splice w q (sideRecords (sidesLeft rem ps)) = c.laid.is ∙ ap (λ (t : TakingOut). splice w q (droppedWords rem t.sides)) (sym e) in
+    pub collecting_end : m ≤ i → Collected w u o np q rem n
+    unfolding sides_left dropped_words
+    collecting_end h =
+        let ps = polygons_at w o np in
+        let e : taken_out rem ps ≡ c.state = c.same ∙ (taking_turns rem c.state).end (omega (arith, c.place, c.many)) in
+        let many : n ≡ length (sides_left rem ps) = c.laid.count ∙ ap (λ (t : TakingOut). length t.sides) (sym e) ∙ sym (length_sides rem ps) in
+        let put : u ≡ splice w q (side_records (sides_left rem ps)) = c.laid.is ∙ ap (λ (t : TakingOut). splice w q (dropped_words rem t.sides)) (sym e) in
         record {
           count = many;
           is = put;
-          sides = fixed-are side-fixed w q n (sidesLeft rem ps) put (sym many) (rw many r.room);
+          sides = fixed_are side_fixed w q n (sides_left rem ps) put (sym many) (rw many r.room);
         }

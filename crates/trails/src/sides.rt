@@ -1,10 +1,10 @@
 // The untouched sides of the polygons that hold a vertex, in the numbers that hold once the vertex has gone.
 ghost use Rattle.std.specs.Prelude.{◌≡◌, ◌+◌, ◌*◌, ◌≤◌, ◌<◌, ltb, length};
-ghost use Rattle.rules.specs.Removal.{holds, sideInto, untouched};
+ghost use Rattle.rules.specs.Removal.{holds, side_into, untouched};
 ghost use Rattle.rules.specs.Removal as Rules;
-ghost use Rattle.rules.specs.Mesh.{polygonAt};
-ghost use Rattle.records.specs.Layout.{mostCorners, polygonSize, polygonsAt, Small, sideSize};
-ghost use Rattle.records.specs.Values.{polygonOf, On};
+ghost use Rattle.rules.specs.Mesh.{polygon_at};
+ghost use Rattle.records.specs.Layout.{most_corners, polygon_size, polygons_at, Small, side_size};
+ghost use Rattle.records.specs.Values.{polygon_of, On};
 ghost use Rattle.trails.specs.Sides.{Laid, CollectReady, Collected};
 
 use plane::ring::prev;
@@ -15,8 +15,8 @@ use rules::Side;
 
 // Whether polygon i of the np at o holds the vertex.
 pub fn is_held(work: &[u32], o: usize, np: usize, i: usize, rem: u32) -> bool
-    requires { (o + np * polygonSize ≤ length work.now) × (i < np) × Small (polygonAt (polygonsAt work.now o np) i) }
-    ensures { result ≡ ltb 0 (holds rem (polygonAt (polygonsAt work.now o np) i)) }
+    requires { (o + np * polygon_size ≤ length work.now) × (i < np) × Small (polygon_at (polygons_at work.now o np) i) }
+    ensures { result ≡ ltb 0 (holds rem (polygon_at (polygons_at work.now o np) i)) }
 {
     let at = o + i * POLYGON_SIZE;
     let n = count_from(work, at);
@@ -39,8 +39,8 @@ pub fn dropped(v: u32, rem: u32) -> u32
 
 // The side that ends at corner j goes to `at`, where it doesn't touch the vertex. The result says how many sides went there.
 fn push_side(work: &mut [u32], at: usize, p: Poly, j: usize, rem: u32) -> usize
-    requires { On p j × (at + length (sideInto rem (polygonOf p) j) * sideSize ≤ length work.old) }
-    ensures { Laid rem (sideInto rem (polygonOf p) j) work.old work.new at result }
+    requires { On p j × (at + length (side_into rem (polygon_of p) j) * side_size ≤ length work.old) }
+    ensures { Laid rem (side_into rem (polygon_of p) j) work.old work.new at result }
 {
     let a = corner(p, prev(j, p.n));
     let b = corner(p, j);
@@ -62,8 +62,8 @@ fn push_side(work: &mut [u32], at: usize, p: Poly, j: usize, rem: u32) -> usize
 
 // The untouched sides of a polygon go to `at`, first the one from its last corner to its first.
 fn push_sides(work: &mut [u32], at: usize, p: Poly, rem: u32) -> usize
-    requires { (p.n ≤ mostCorners) × (at + length (untouched rem (polygonOf p)) * sideSize ≤ length work.old) }
-    ensures { Laid rem (untouched rem (polygonOf p)) work.old work.new at result }
+    requires { (p.n ≤ most_corners) × (at + length (untouched rem (polygon_of p)) * side_size ≤ length work.old) }
+    ensures { Laid rem (untouched rem (polygon_of p)) work.old work.new at result }
 {
     let mut k: usize = 0;
     let mut j = 0;

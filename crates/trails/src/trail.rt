@@ -1,9 +1,9 @@
 // A walk under way, in a part of the work buffer: the sides not yet used stand at its beginning, and the chain further
 // behind, so that a point can be added at both of its ends.
 ghost use Rattle.std.specs.Prelude.{◌*◌, ◌≤◌, ◌<◌, length};
-ghost use Rattle.rules.specs.Removal.{front, back, walkBy, walkOne};
-ghost use Rattle.records.specs.Layout.{sideSize};
-ghost use Rattle.trails.specs.Trails.{walkIn, Trying, Came, Used};
+ghost use Rattle.rules.specs.Removal.{front, back, walk_by, walk_one};
+ghost use Rattle.records.specs.Layout.{side_size};
+ghost use Rattle.trails.specs.Trails.{walk_in, Trying, Came, Used};
 
 use records::point::{POINT_SIZE, load_point, store_point};
 use records::side::{SIDE_SIZE, load_side, store_side};
@@ -20,7 +20,7 @@ pub struct Trail {
 
 // Of n sides, side i is used: the last takes its place.
 fn use_side(part: &mut [u32], n: usize, i: usize)
-    requires { (n * sideSize ≤ length part.old) × (i < n) }
+    requires { (n * side_size ≤ length part.old) × (i < n) }
     ensures { Used part.old part.new n i }
 {
     let last = n - 1;
@@ -31,7 +31,7 @@ fn use_side(part: &mut [u32], n: usize, i: usize)
 // Side `at`, which is s, is used in front of the chain.
 fn link_front(part: &mut [u32], t: Trail, s: Side) -> Trail
     requires { Trying part.old t }
-    ensures { Came (walkBy front s (walkIn part.old t)) part.new result }
+    ensures { Came (walk_by front s (walk_in part.old t)) part.new result }
 {
     let first = t.first - POINT_SIZE;
     let c = ChainPoint {
@@ -52,7 +52,7 @@ fn link_front(part: &mut [u32], t: Trail, s: Side) -> Trail
 // Side `at`, which is s, is used behind the chain.
 fn link_back(part: &mut [u32], t: Trail, s: Side) -> Trail
     requires { Trying part.old t }
-    ensures { Came (walkBy back s (walkIn part.old t)) part.new result }
+    ensures { Came (walk_by back s (walk_in part.old t)) part.new result }
 {
     let behind = t.first + t.points * POINT_SIZE;
     let c = ChainPoint {
@@ -73,7 +73,7 @@ fn link_back(part: &mut [u32], t: Trail, s: Side) -> Trail
 // Side `at` is tried, in front before behind.
 pub fn try_side(part: &mut [u32], t: Trail) -> Trail
     requires { Trying part.old t }
-    ensures { Came (walkOne (walkIn part.old t)) part.new result }
+    ensures { Came (walk_one (walk_in part.old t)) part.new result }
 {
     let s = load_side(part, 0, t.left, t.at);
     let first = load_point(part, t.first, t.points, 0);

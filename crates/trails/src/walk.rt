@@ -1,8 +1,8 @@
 // The walk along the sides around a vertex.
 ghost use Rattle.std.specs.Prelude.{◌≤◌, ◌<◌, length};
-ghost use Rattle.rules.specs.Removal.{walkOnce, walkStart, walk};
-ghost use Rattle.records.specs.Layout.{sidesAt};
-ghost use Rattle.trails.specs.Trails.{walkIn, Room, Came, walkSize, WalkReady, Over, WalkedTo};
+ghost use Rattle.rules.specs.Removal.{walk_once, walk_start, walk};
+ghost use Rattle.records.specs.Layout.{sides_at};
+ghost use Rattle.trails.specs.Trails.{walk_in, Room, Came, walk_size, WalkReady, Over, WalkedTo};
 
 use crate::trail::{Trail, try_side};
 use records::point::{POINT_SIZE, store_point};
@@ -20,8 +20,8 @@ pub struct Walked {
 
 // The walk starts with the first side's first point, in the middle of what lies behind the n sides.
 fn start_walk(part: &mut [u32], n: usize) -> Trail
-    requires { (0 < n) × (walkSize n ≤ length part.old) }
-    ensures { Came (walkStart (sidesAt part.old 0 n)) part.new result }
+    requires { (0 < n) × (walk_size n ≤ length part.old) }
+    ensures { Came (walk_start (sides_at part.old 0 n)) part.new result }
 {
     let first = n * SIDE_SIZE + n * POINT_SIZE;
     let s = load_side(part, 0, n, 0);
@@ -42,7 +42,7 @@ fn start_walk(part: &mut [u32], n: usize) -> Trail
 // Once over the sides.
 fn walk_once(part: &mut [u32], t: Trail) -> Trail
     requires { Room part.old t }
-    ensures { Came (walkOnce (walkIn part.old t)) part.new result }
+    ensures { Came (walk_once (walk_in part.old t)) part.new result }
 {
     let mut u = Trail {
         at: 0,
@@ -58,8 +58,8 @@ fn walk_once(part: &mut [u32], t: Trail) -> Trail
 
 // Again and again over the n sides, until none is used.
 fn walk_all(part: &mut [u32], n: usize) -> Trail
-    requires { (0 < n) × (walkSize n ≤ length part.old) }
-    ensures { Came (walk (sidesAt part.old 0 n)) part.new result }
+    requires { (0 < n) × (walk_size n ≤ length part.old) }
+    ensures { Came (walk (sides_at part.old 0 n)) part.new result }
 {
     let mut u = start_walk(&mut *part, n);
     loop {
@@ -73,8 +73,8 @@ fn walk_all(part: &mut [u32], n: usize) -> Trail
 
 // The walk along the n sides at the part's beginning. Its chain takes their place, and zeros take the place of all else.
 fn walk_in(part: &mut [u32], n: usize) -> Walked
-    requires { (0 < n) × (walkSize n ≤ length part.old) }
-    ensures { Over (walk (sidesAt part.old 0 n)) part.new (length part.old) result }
+    requires { (0 < n) × (walk_size n ≤ length part.old) }
+    ensures { Over (walk (sides_at part.old 0 n)) part.new (length part.old) result }
 {
     let t = walk_all(&mut *part, n);
     let k = t.points * POINT_SIZE;

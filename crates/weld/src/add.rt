@@ -1,7 +1,7 @@
 // One vertex takes its number: that of the vertex that is the same, or a new one.
 ghost use Rattle.std.specs.Prelude.{◌≡◌, ◌+◌, ◌<◌, [], ◌∷◌, ◌++◌};
 ghost use Rattle.rules.specs.Weld.{flagged};
-ghost use Rattle.records.specs.Layout.{verticesAt, marksAt};
+ghost use Rattle.records.specs.Layout.{vertices_at, marks_at};
 ghost use Rattle.weld.specs.Tables.{tabled, Room, Tabled, grown, Added, WeldedOne};
 
 use crate::find::{Tables, find_vertex};
@@ -12,7 +12,7 @@ use rules::{Found, Vertex};
 // Vertex nv is v, with no mark: it becomes the first of its bucket, and the one that was first comes next.
 fn put_vertex(work: &mut [u32], t: Tables, nv: usize, v: Vertex)
     requires { Tabled work.old t nv × Room work.old t (nv + 1) }
-    ensures { work.new ≡ tabled work.old t (verticesAt work.old t.vertices nv ++ (v ∷ [])) (marksAt work.old t.vertices nv ++ (0 ∷ [])) }
+    ensures { work.new ≡ tabled work.old t (vertices_at work.old t.vertices nv ++ (v ∷ [])) (marks_at work.old t.vertices nv ++ (0 ∷ [])) }
 {
     let b = t.buckets + compute_vertex_hash(v.x, v.z) as usize;
     let first = work[b];
@@ -40,7 +40,7 @@ pub fn add_vertex(work: &mut [u32], t: Tables, nv: usize, v: Vertex, height: u16
 // The mark of vertex k is set where the flag is 1.
 fn mark_vertex(work: &mut [u32], t: Tables, nv: usize, k: usize, flag: u16)
     requires { Tabled work.old t nv × (k < nv) }
-    ensures { work.new ≡ tabled work.old t (verticesAt work.old t.vertices nv) (flagged flag k (marksAt work.old t.vertices nv)) }
+    ensures { work.new ≡ tabled work.old t (vertices_at work.old t.vertices nv) (flagged flag k (marks_at work.old t.vertices nv)) }
 {
     if flag == 1 {
         work[t.vertices + k * VERTEX_SIZE + MARK_AT] = 1;

@@ -1,6 +1,6 @@
 // All vertices of a contour take their numbers.
 ghost use Rattle.std.specs.Prelude.{◌≡◌, ◌+◌, ◌*◌, ◌≤◌, length};
-ghost use Rattle.rules.specs.Job.{jobStride, vertexAt, flagAt};
+ghost use Rattle.rules.specs.Job.{job_stride, vertex_at, flag_at};
 ghost use Rattle.weld.specs.Tables.{WeldReady, WeldedTo};
 
 use crate::add::{grow, weld_vertex};
@@ -12,8 +12,8 @@ const JOB_STRIDE: usize = 4;
 
 // Vertex k of a job.
 fn vertex_at(numbers: &[u16], k: usize) -> Vertex
-    requires { k * jobStride + jobStride ≤ length numbers.now }
-    ensures { result ≡ vertexAt numbers.now k }
+    requires { k * job_stride + job_stride ≤ length numbers.now }
+    ensures { result ≡ vertex_at numbers.now k }
 {
     let at = k * JOB_STRIDE;
     Vertex {
@@ -25,8 +25,8 @@ fn vertex_at(numbers: &[u16], k: usize) -> Vertex
 
 // Its flag.
 fn flag_at(numbers: &[u16], k: usize) -> u16
-    requires { k * jobStride + jobStride ≤ length numbers.now }
-    ensures { result ≡ flagAt numbers.now k }
+    requires { k * job_stride + job_stride ≤ length numbers.now }
+    ensures { result ≡ flag_at numbers.now k }
 {
     numbers[k * JOB_STRIDE + 3]
 }

@@ -2,8 +2,8 @@
 ghost use Rattle.std.specs.Prelude.{◌≡◌, ◌+◌, ◌<◌, ◌≤◌, length};
 ghost use Rattle.mem.specs.Slice.{view};
 ghost use Rattle.rules.specs.Lists.{apart};
-ghost use Rattle.rules.specs.Weld.{highestBelow};
-ghost use Rattle.records.specs.Layout.{vertexSize, vertexIn, verticesAt};
+ghost use Rattle.rules.specs.Weld.{highest_below};
+ghost use Rattle.records.specs.Layout.{vertex_size, vertex_in, vertices_at};
 ghost use Rattle.weld.specs.Tables.{agree, Tabled};
 
 use crate::hash::compute_vertex_hash;
@@ -28,8 +28,8 @@ fn gap(a: u32, b: u32) -> u32
 
 // Whether the vertex whose words start at `at` agrees with v in coordinate c: x, y up to the height, and z.
 fn agrees(work: &[u32], at: usize, v: Vertex, height: u16, c: usize) -> bool
-    requires { at + vertexSize ≤ length work.now }
-    ensures { result ≡ agree height (vertexIn (view work.now at vertexSize)) v c }
+    requires { at + vertex_size ≤ length work.now }
+    ensures { result ≡ agree height (vertex_in (view work.now at vertex_size)) v c }
 {
     if c == 0 {
         return work[at] == v.x as u32;
@@ -44,7 +44,7 @@ fn agrees(work: &[u32], at: usize, v: Vertex, height: u16, c: usize) -> bool
 // a coordinate that doesn't agree sends the search on to the next of them.
 pub fn find_vertex(work: &[u32], t: Tables, nv: usize, v: Vertex, height: u16) -> Found
     requires { Tabled work.now t nv }
-    ensures { result ≡ highestBelow height (verticesAt work.now t.vertices nv) v nv }
+    ensures { result ≡ highest_below height (vertices_at work.now t.vertices nv) v nv }
 {
     let mut found = Found::Nothing;
     let mut link = link_at(work, t.buckets + compute_vertex_hash(v.x, v.z) as usize);

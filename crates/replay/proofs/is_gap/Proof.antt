@@ -1,6 +1,6 @@
 -- `replay::is_gap` meets its contract: it is the definition. Assumes nothing.
 use mathlib.Core.Path.{refl}
-use Rattle.replay.specs.Sheets.{isGap}
+use Rattle.replay.specs.Sheets.{is_gap}
 use borrow.Author.Rules.{rules}
 use Rattle.replay.proofs.is_gap.Statement.{statement}
 use Rattle.replay.proofs.is_gap.Tie as tie
@@ -15,7 +15,7 @@ shared-slice-read-result-2 : tie.Need-shared-slice-read-result-2
 shared-slice-read-result-2 c = search rules
 
 returns : tie.Need-returns
-unfolding isGap
+unfolding is_gap
 returns c = refl
 
 pub is-gap-spec : {M : Type 1} → statement M

@@ -6,18 +6,18 @@ use native.Mathlib.Omega.{arith}
 use mathlib.Core.List.{List}
 use Prim.Native.Nat.{ℕ, ◌+◌, ◌-◌, ◌≤◌, ◌<◌}
 use lib.ListN.{length}
-use Rattle.mem.specs.Cases.{lt-or-le}
-use Rattle.replay.specs.Sheets.{isGap}
+use Rattle.mem.specs.Cases.{lt_or_le}
+use Rattle.replay.specs.Sheets.{is_gap}
 use borrow.Author.Rules.{rules}
 use Rattle.replay.proofs.sheet_end.Statement.{statement}
 use Rattle.replay.proofs.sheet_end.Tie as tie
 
 -- one more place is seen
-step : (text : List ℕ) (at i : ℕ) → ((j : ℕ) → at < j → j < i → isGap text j ≡ false) → isGap text i ≡ false → (j : ℕ) → at < j → j < i + 1 → isGap text j ≡ false
-step text at i f e j a b = ⊎_elim (λ (l : j < i). f j a l) (λ (l : i ≤ j). let q : j ≡ i = omega arith in rw q e) (lt-or-le j i)
+step : (text : List ℕ) (at i : ℕ) → ((j : ℕ) → at < j → j < i → is_gap text j ≡ false) → is_gap text i ≡ false → (j : ℕ) → at < j → j < i + 1 → is_gap text j ≡ false
+step text at i f e j a b = ⊎_elim (λ (l : j < i). f j a l) (λ (l : i ≤ j). let q : j ≡ i = omega arith in rw q e) (lt_or_le j i)
 
 abbrev invariant-loop : tie.invariant-loop
-invariant-loop text at i₀ i = (at < i) × (i ≤ length text) × ((j : ℕ) → at < j → j < i → isGap text j ≡ false)
+invariant-loop text at i₀ i = (at < i) × (i ≤ length text) × ((j : ℕ) → at < j → j < i → is_gap text j ≡ false)
 
 abbrev decreases-loop : tie.decreases-loop
 decreases-loop text at i₀ i = length text - i

@@ -1,11 +1,11 @@
 -- `capi::build::mittencrest_build_v1` meets its contract: it is the build's, with the header and the reply as numbers. Assumes nothing.
 use mathlib.Core.Path.{ap, ◌∙◌}
-use Rattle.rules.specs.Replies.{numberOfReply}
+use Rattle.rules.specs.Replies.{number_of_reply}
 use Rattle.rules.specs.Build.{answer}
 use Rattle.rules.specs.declared.Answer.{Answer}
 use Rattle.rules.specs.declared.Reply.{Reply}
-use Rattle.capi.specs.Numbers.{headerWords, answerWords}
-use Rattle.capi.proofs.Written.{header-back}
+use Rattle.capi.specs.Numbers.{header_words, answer_words}
+use Rattle.capi.proofs.Written.{header_back}
 use borrow.Author.Rules.{rules}
 use Rattle.capi.proofs.build.mittencrest_build_v1.Statement.{statement}
 use Rattle.capi.proofs.build.mittencrest_build_v1.Tie as tie
@@ -48,11 +48,11 @@ unfolding answer
 returns c =
     let e = c.before.before.before.before.before.before.before.before.before.before.before.before.before.before.before.before.before.before.before.into-polygon-mesh.ensures.0 in
     let q = ap (λ (a : Answer). a.reply) e in (
-      c.put-answer.ensures.0 ∙ ap numberOfReply q,
+      c.put-answer.ensures.0 ∙ ap number_of_reply q,
       (
-        c.put-answer.ensures.1 ∙ ap (λ (y : Reply). answerWords y c.before.before.before.before.before.before.before.before.before.before.before.before.before.before.before.before.before.before.before.before.before.before.before.before.before.before.before.before.before.before.before.before.before.before.before.before.before.before.before.before.before.args.inches) q,
+        c.put-answer.ensures.1 ∙ ap (λ (y : Reply). answer_words y c.before.before.before.before.before.before.before.before.before.before.before.before.before.before.before.before.before.before.before.before.before.before.before.before.before.before.before.before.before.before.before.before.before.before.before.before.before.before.before.before.before.args.inches) q,
         (
-          c.before.before.put-header.ensures ∙ ap headerWords (ap (λ (a : Answer). a.header) e ∙ c.before.before.before.before.before.before.before.before.before.before.before.before.before.before.before.before.before.before.before.before.before.before.before.before.before.before.before.header-from.ensures) ∙ header-back c.before.before.before.before.before.before.before.before.before.before.before.before.before.before.before.before.before.before.before.before.before.before.before.before.before.before.before.before.before.before.before.before.before.before.before.before.before.before.before.before.before.args.inches c.before.before.before.before.before.before.before.before.before.before.before.before.before.before.before.before.before.before.before.before.before.before.before.before.before.before.before.before.before.before.before.before.before.before.before.before.before.before.before.before.before.args.header.now c.before.before.before.put-header-arg.given.0.1,
+          c.before.before.put-header.ensures ∙ ap header_words (ap (λ (a : Answer). a.header) e ∙ c.before.before.before.before.before.before.before.before.before.before.before.before.before.before.before.before.before.before.before.before.before.before.before.before.before.before.before.header-from.ensures) ∙ header_back c.before.before.before.before.before.before.before.before.before.before.before.before.before.before.before.before.before.before.before.before.before.before.before.before.before.before.before.before.before.before.before.before.before.before.before.before.before.before.before.before.before.args.inches c.before.before.before.before.before.before.before.before.before.before.before.before.before.before.before.before.before.before.before.before.before.before.before.before.before.before.before.before.before.before.before.before.before.before.before.before.before.before.before.before.before.args.header.now c.before.before.before.put-header-arg.given.0.1,
           c.before.before.before.before.before.before.before.before.before.before.before.before.before.before.before.before.before.before.before.into-polygon-mesh.ensures.1.0,
         ),
       ),

@@ -1,7 +1,7 @@
 -- `capi::carving::mittencrest_stl_v1` meets its contract: what `write_stl` promises, with its reply as numbers. Assumes nothing.
 use native.Mathlib.Omega.{arith}
-use Rattle.rules.specs.StlCall.{stlNumber, stlSecond, stlWords}
-use Rattle.capi.proofs.Numbered.{stl-small, answer-words}
+use Rattle.rules.specs.StlCall.{stl_number, stl_second, stl_words}
+use Rattle.capi.proofs.Numbered.{stl_small, answer_words_lem}
 use borrow.Author.Rules.{rules}
 use Rattle.capi.proofs.carving.mittencrest_stl_v1.Statement.{statement}
 use Rattle.capi.proofs.carving.mittencrest_stl_v1.Tie as tie
@@ -17,7 +17,7 @@ stl-number-requires : tie.Need-stl-number-requires
 stl-number-requires c κs = search rules
 
 cast-put-three : tie.Need-overflow-cast-put-three
-cast-put-three c = record { fits = omega (arith, c.stl-number.ensures, stl-small (written c).write-stl.result) }
+cast-put-three c = record { fits = omega (arith, c.stl-number.ensures, stl_small (written c).write-stl.result) }
 
 stl-second-requires : tie.Need-stl-second-requires
 stl-second-requires c κs = search rules
@@ -29,12 +29,12 @@ same_length : tie.Need-same-length
 same_length c = search rules
 
 returns : tie.Need-returns
-unfolding stlWords
+unfolding stl_words
 returns c =
     let at_second = c.before in
     let at-number = at_second.before in
     let done = (written at-number).write-stl.ensures in
-    let told = answer-words stlNumber stlSecond done.0 at-number.stl-number.ensures at_second.stl-second.ensures c.put_three.ensures in
+    let told = answer_words_lem stl_number stl_second done.0 at-number.stl-number.ensures at_second.stl-second.ensures c.put_three.ensures in
     (told.0, (told.1, done.1))
 
 pub mittencrest-stl-v1-spec : {M : Type 1} → statement M

@@ -1,6 +1,6 @@
 -- `capi::header::header_from` meets its contract: field by field. Assumes nothing.
 use mathlib.Core.Path.{refl}
-use Rattle.capi.specs.Numbers.{number_at, headerFrom}
+use Rattle.capi.specs.Numbers.{number_at, header_from}
 use borrow.Author.Rules.{rules}
 use Rattle.capi.proofs.header.header_from.Statement.{statement}
 use Rattle.capi.proofs.header.header_from.Tie as tie
@@ -36,7 +36,7 @@ shared-slice-read-t10-3 : tie.Need-shared-slice-read-t10-3
 shared-slice-read-t10-3 c = search rules
 
 returns : tie.Need-returns
-unfolding headerFrom number_at
+unfolding header_from number_at
 returns c = rw c.before.before.cell-size.ensures refl
 
 pub header-from-spec : {M : Type 1} → statement M

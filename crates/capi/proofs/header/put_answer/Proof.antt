@@ -2,7 +2,7 @@
 use mathlib.Core.Path.{◌∙◌}
 use native.Mathlib.Omega.{arith}
 use lib.ListN.{length-set}
-use Rattle.capi.proofs.Written.{four, number_small, built-words, refused-words, built-number, refused-number}
+use Rattle.capi.proofs.Written.{four, number_small, built_words, refused_words, built_number, refused_number}
 use borrow.Author.Rules.{rules}
 use Rattle.capi.proofs.header.put_answer.Statement.{statement}
 use Rattle.capi.proofs.header.put_answer.Tie as tie
@@ -54,9 +54,9 @@ same_length c = search rules
 
 returns : tie.Need-returns
 returns c = (
-  built-number c.before.before.before.before.before.args.reply c.before.reply.given.0.0 c.before.reply.given.0.1.0 c.before.reply.given.1,
+  built_number c.before.before.before.before.before.args.reply c.before.reply.given.0.0 c.before.reply.given.0.1.0 c.before.reply.given.1,
   four c.before.before.before.before.before.args.words.now 0 c.before.reply.given.0.0 c.before.reply.given.0.1.0 c.before.before.before.unit-number.result c.before.before.before.before.before.requires
-      ∙ built-words c.before.before.before.before.before.args.reply c.before.before.before.before.before.args.inches c.before.reply.given.0.0 c.before.reply.given.0.1.0 c.before.before.before.unit-number.result c.before.reply.given.1 c.before.before.before.unit-number.ensures,
+      ∙ built_words c.before.before.before.before.before.args.reply c.before.before.before.before.before.args.inches c.before.reply.given.0.0 c.before.reply.given.0.1.0 c.before.before.before.unit-number.result c.before.reply.given.1 c.before.before.before.unit-number.ensures,
 )
 
 same-length-2 : tie.Need-same-length-2
@@ -64,9 +64,9 @@ same-length-2 c = search rules
 
 returns-2 : tie.Need-returns-2
 returns-2 c = (
-  refused-number c.before.before.before.before.before.before.before.args.reply c.before.before.before.reply2.given.0.0 c.before.refusal-number.result c.before.before.before.reply2.given.1 c.before.refusal-number.ensures,
+  refused_number c.before.before.before.before.before.before.before.args.reply c.before.before.before.reply2.given.0.0 c.before.refusal-number.result c.before.before.before.reply2.given.1 c.before.refusal-number.ensures,
   four c.before.before.before.before.before.before.before.args.words.now c.before.refusal-number.result c.refusal-second.result 0 c.before.before.before.before.before.unit-number.result c.before.before.before.before.before.before.before.requires
-      ∙ refused-words c.before.before.before.before.before.before.before.args.reply c.before.before.before.before.before.before.before.args.inches c.before.before.before.reply2.given.0.0 c.before.refusal-number.result c.refusal-second.result c.before.before.before.before.before.unit-number.result c.before.before.before.reply2.given.1 c.before.refusal-number.ensures c.refusal-second.ensures c.before.before.before.before.before.unit-number.ensures,
+      ∙ refused_words c.before.before.before.before.before.before.before.args.reply c.before.before.before.before.before.before.before.args.inches c.before.before.before.reply2.given.0.0 c.before.refusal-number.result c.refusal-second.result c.before.before.before.before.before.unit-number.result c.before.before.before.reply2.given.1 c.before.refusal-number.ensures c.refusal-second.ensures c.before.before.before.before.before.unit-number.ensures,
 )
 
 pub put-answer-spec : {M : Type 1} → statement M

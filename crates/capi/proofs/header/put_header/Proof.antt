@@ -2,7 +2,7 @@
 use mathlib.Core.Path.{◌≡◌, refl, ◌∙◌}
 use native.Mathlib.Omega.{arith}
 use lib.ListN.{length-set}
-use Rattle.capi.specs.Numbers.{sizeNumber, headerWords}
+use Rattle.capi.specs.Numbers.{size_number, header_words}
 use Rattle.capi.proofs.Written.{nine}
 use borrow.Author.Rules.{rules}
 use Rattle.capi.proofs.header.put_header.Statement.{statement}
@@ -42,9 +42,9 @@ same_length : tie.Need-same-length
 same_length c = search rules
 
 returns : tie.Need-returns
-unfolding headerWords
+unfolding header_words
 returns c = nine c.before.before.before.args.numbers.now _ _ _ _ _ _ c.type_size.result _ _ c.before.before.before.requires ∙
-    (let e : c.type_size.result ≡ sizeNumber c.before.before.before.args.header.cell_size = c.type_size.ensures in rw e refl)
+    (let e : c.type_size.result ≡ size_number c.before.before.before.args.header.cell_size = c.type_size.ensures in rw e refl)
 
 pub put-header-spec : {M : Type 1} → statement M
 put-header-spec =

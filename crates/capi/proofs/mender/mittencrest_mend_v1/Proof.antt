@@ -1,5 +1,5 @@
 -- `capi::mender::mittencrest_mend_v1` meets its contract: what `mend` promises, with its reply as numbers. Assumes nothing.
-use Rattle.capi.proofs.Mended.{reply-as}
+use Rattle.capi.proofs.Mended.{reply_as}
 use borrow.Author.Rules.{rules}
 use Rattle.capi.proofs.mender.mittencrest_mend_v1.Statement.{statement}
 use Rattle.capi.proofs.mender.mittencrest_mend_v1.Tie as tie
@@ -23,7 +23,7 @@ returns : tie.Need-returns
 returns c =
     let at-mend = c.before.before.before.before.before.before.before.before in
     let mended = at-mend.mend.ensures in
-    let told = reply-as mended.0 c.put-mended.ensures in
+    let told = reply_as mended.0 c.put-mended.ensures in
     (told.0, (told.1, mended.1))
 
 pub mittencrest-mend-v1-spec : {M : Type 1} → statement M

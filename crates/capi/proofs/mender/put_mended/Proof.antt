@@ -1,7 +1,7 @@
 -- `capi::mender::put_mended` meets its contract: by the reply's case. Assumes nothing.
 use mathlib.Core.Path.{refl}
-use Rattle.rules.specs.MendCall.{mendWords}
-use Rattle.capi.proofs.Mended.{reply-words}
+use Rattle.rules.specs.MendCall.{mend_words}
+use Rattle.capi.proofs.Mended.{reply_words}
 use borrow.Author.Rules.{rules}
 use Rattle.capi.proofs.mender.put_mended.Statement.{statement}
 use Rattle.capi.proofs.mender.put_mended.Tie as tie
@@ -40,51 +40,51 @@ same_length : tie.Need-same-length
 same_length c = search rules
 
 returns : tie.Need-returns
-unfolding mendWords
+unfolding mend_words
 returns c =
     let at-put-three = c.before.before in
     let at-reply = at-put-three.before.before.before in
-    let mended = at-reply.reply in reply-words mended.given.0.0 mended.given.0.1.0 mended.given.1 refl at-put-three.put_three.ensures
+    let mended = at-reply.reply in reply_words mended.given.0.0 mended.given.0.1.0 mended.given.1 refl at-put-three.put_three.ensures
 
 same-length-2 : tie.Need-same-length-2
 same-length-2 c = search rules
 
 returns-2 : tie.Need-returns-2
-unfolding mendWords
+unfolding mend_words
 returns-2 c =
     let at-put-three2 = c.before.before in
     let at-enum-told = at-put-three2.before.before in
-    reply-words 0 0 at-enum-told.enum_told.given.1 refl at-put-three2.put-three2.ensures
+    reply_words 0 0 at-enum-told.enum_told.given.1 refl at-put-three2.put-three2.ensures
 
 same-length-3 : tie.Need-same-length-3
 same-length-3 c = search rules
 
 returns-3 : tie.Need-returns-3
-unfolding mendWords
+unfolding mend_words
 returns-3 c =
     let at-put-three3 = c.before.before in
     let at-enum-told2 = at-put-three3.before.before in
-    reply-words 0 0 at-enum-told2.enum-told2.given.1 refl at-put-three3.put-three3.ensures
+    reply_words 0 0 at-enum-told2.enum-told2.given.1 refl at-put-three3.put-three3.ensures
 
 same-length-4 : tie.Need-same-length-4
 same-length-4 c = search rules
 
 returns-4 : tie.Need-returns-4
-unfolding mendWords
+unfolding mend_words
 returns-4 c =
     let at-put-three4 = c.before.before in
     let at-enum-told3 = at-put-three4.before.before in
-    reply-words 0 0 at-enum-told3.enum-told3.given.1 refl at-put-three4.put-three4.ensures
+    reply_words 0 0 at-enum-told3.enum-told3.given.1 refl at-put-three4.put-three4.ensures
 
 same-length-5 : tie.Need-same-length-5
 same-length-5 c = search rules
 
 returns-5 : tie.Need-returns-5
-unfolding mendWords
+unfolding mend_words
 returns-5 c =
     let at-put-three5 = c.before.before in
     let at-enum-told4 = at-put-three5.before.before in
-    reply-words 0 0 at-enum-told4.enum-told4.given.1 refl at-put-three5.put-three5.ensures
+    reply_words 0 0 at-enum-told4.enum-told4.given.1 refl at-put-three5.put-three5.ensures
 
 pub put-mended-spec : {M : Type 1} → statement M
 put-mended-spec =

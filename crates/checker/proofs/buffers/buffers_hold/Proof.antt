@@ -3,13 +3,13 @@ use mathlib.Core.Path.{◌∙◌}
 use native.Mathlib.Nat.{div-mul-le_self}
 use native.Mathlib.Omega.{arith}
 use lib.ListN.{length}
-use Rattle.checker.proofs.Blocks.{limits-fail, counts-fail, blocks-fail, grid-decides, wide_enough}
+use Rattle.checker.proofs.Blocks.{limits_fail, counts_fail, blocks_fail, grid_decides, wide_enough}
 use borrow.Author.Rules.{rules}
 use Rattle.checker.proofs.buffers.buffers_hold.Statement.{statement}
 use Rattle.checker.proofs.buffers.buffers_hold.Tie as tie
 
 returns : tie.Need-returns
-returns c = let a = c.before.before.before.before.args in limits-fail a.nvp a.vertices.now a.polygons.now a.links.now c.if1.true
+returns c = let a = c.before.before.before.before.args in limits_fail a.nvp a.vertices.now a.polygons.now a.links.now c.if1.true
 
 div-np : tie.Need-nonzero-div-np
 div-np c = let a = c.before.before.before.before.args in wide_enough a.nvp a.vertices.now a.polygons.now a.links.now c.if1.false
@@ -17,7 +17,7 @@ div-np c = let a = c.before.before.before.before.args in wide_enough a.nvp a.ver
 returns-2 : tie.Need-returns-2
 returns-2 c =
     let a = c.before.before.before.before.before.args in
-    counts-fail a.nvp a.vertices.now a.polygons.now a.links.now c.if2.true
+    counts_fail a.nvp a.vertices.now a.polygons.now a.links.now c.if2.true
 
 mul-whole : tie.Need-overflow-mul-whole
 mul-whole c = search rules
@@ -35,12 +35,12 @@ returns-3 c =
     let t = c.before in
     let a = t.before.before.before.before.before.before.args in
     c.are-in-grid.ensures
-    ∙ grid-decides a.nvp a.vertices.now a.polygons.now a.links.now t.before.before.if1.false t.before.if2.false t.if3.true
+    ∙ grid_decides a.nvp a.vertices.now a.polygons.now a.links.now t.before.before.if1.false t.before.if2.false t.if3.true
 
 returns-4 : tie.Need-returns-4
 returns-4 c =
     let a = c.before.before.before.before.before.before.args in
-    blocks-fail a.nvp a.vertices.now a.polygons.now a.links.now c.if3.false
+    blocks_fail a.nvp a.vertices.now a.polygons.now a.links.now c.if3.false
 
 pub buffers-hold-spec : {M : Type 1} → statement M
 buffers-hold-spec =

@@ -1,7 +1,7 @@
 -- `checker::buffers::is_high` meets its contract: the two numbers that it reads are x and z of the definition. Assumes nothing.
 use mathlib.Core.Path.{refl}
-use Rattle.rules.specs.Checks.{isHigh}
-use Rattle.stored.specs.Stored.{vertexIn}
+use Rattle.rules.specs.Checks.{is_high}
+use Rattle.stored.specs.Stored.{vertex_in}
 use borrow.Author.Rules.{rules}
 use Rattle.checker.proofs.buffers.is_high.Statement.{statement}
 use Rattle.checker.proofs.buffers.is_high.Tie as tie
@@ -25,7 +25,7 @@ shared-slice-read-result-2 : tie.Need-shared-slice-read-result-2
 shared-slice-read-result-2 c = search rules
 
 returns : tie.Need-returns
-unfolding isHigh vertexIn
+unfolding is_high vertex_in
 returns c = refl
 
 pub is-high-spec : {M : Type 1} → statement M

@@ -1,16 +1,16 @@
 -- `checker::check::check_mesh` meets its contract: a sound mesh is consistent, and goes on to 43 and 44; a fault is the verdict. Assumes nothing.
 use mathlib.Core.Path.{sym, ◌∙◌}
 use Rattle.rules.specs.Checker.{Claim}
-use Rattle.laws.specs.Handed.{sound-exactly}
-use Rattle.laws.specs.Checker.{sound-passes}
-use Rattle.checker.specs.Asked.{claimIn}
-use Rattle.checker.proofs.Verdicts.{sound-last, unsound}
+use Rattle.laws.specs.Handed.{sound_exactly}
+use Rattle.laws.specs.Checker.{sound_passes}
+use Rattle.checker.specs.Asked.{claim_in}
+use Rattle.checker.proofs.Verdicts.{sound_last, unsound}
 use borrow.Author.Rules.{rules}
 use Rattle.checker.proofs.check.check_mesh.Statement.{statement}
 use Rattle.checker.proofs.check.check_mesh.Tie as tie
 
 abbrev claim : tie.Start → Claim
-claim s = let a = s.args in claimIn a.nvp a.w a.h a.border a.claim a.vertices.now a.polygons.now a.links.now
+claim s = let a = s.args in claim_in a.nvp a.w a.h a.border a.claim a.vertices.now a.polygons.now a.links.now
 
 soundness-of-requires : tie.Need-soundness-of-requires
 soundness-of-requires c κs = search rules
@@ -21,7 +21,7 @@ enum_told c = search rules
 sound-verdict-requires : tie.Need-sound-verdict-requires
 sound-verdict-requires c κs =
     let f = c.before.before in
-    (sound-exactly (claim f.before.before.before.before).mesh).0 (sym f.soundness-of.ensures ∙ c.enum_told.given.1)
+    (sound_exactly (claim f.before.before.before.before).mesh).0 (sym f.soundness-of.ensures ∙ c.enum_told.given.1)
 
 enum-known-sound : tie.Need-enum-known-sound
 enum-known-sound c = search rules
@@ -32,8 +32,8 @@ returns c =
     let f = t.before.before in
     let s = f.before.before.before.before in
     let a = s.args in
-    sound-last a.nvp a.w a.h a.border a.claim a.vertices.now a.polygons.now a.links.now s.ranges.claim c.sound-verdict.ensures
-    ∙ sym (sound-passes (claim s) (sym f.soundness-of.ensures ∙ t.enum_told.given.1))
+    sound_last a.nvp a.w a.h a.border a.claim a.vertices.now a.polygons.now a.links.now s.ranges.claim c.sound-verdict.ensures
+    ∙ sym (sound_passes (claim s) (sym f.soundness-of.ensures ∙ t.enum_told.given.1))
 
 returns-2 : tie.Need-returns-2
 returns-2 c =

@@ -1,7 +1,7 @@
 -- `checker::check::links_sound` meets its contract: what the search finds is the fault. Assumes nothing.
 use Rattle.rules.specs.declared.Fault.TheVariants.{BadLinks}
 use Rattle.rules.specs.declared.Soundness.TheVariants.{Sound}
-use Rattle.checker.proofs.Verdicts.{fault-found, none_found}
+use Rattle.checker.proofs.Verdicts.{fault_found, none_found}
 use borrow.Author.Rules.{rules}
 use Rattle.checker.proofs.check.links_sound.Statement.{statement}
 use Rattle.checker.proofs.check.links_sound.Tie as tie
@@ -16,7 +16,7 @@ enum_told : tie.Need-enum-told
 enum_told c = search rules
 
 returns : tie.Need-returns
-returns c = fault-found BadLinks Sound c.before.before.before.first-bad-links.ensures c.before.i.given.1
+returns c = fault_found BadLinks Sound c.before.before.before.first-bad-links.ensures c.before.i.given.1
 
 returns-2 : tie.Need-returns-2
 returns-2 c = none_found BadLinks Sound c.before.before.first-bad-links.ensures c.enum_told.given.1

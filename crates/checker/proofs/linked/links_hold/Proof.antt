@@ -6,17 +6,17 @@ use Prim.Native.Nat.{ℕ, ◌+◌, ◌-◌, ◌*◌, ◌≤◌, ◌<◌}
 use native.Mathlib.Omega.{arith}
 use lib.ListN.{length}
 use Rattle.mem.specs.Slice.{view}
-use Rattle.rules.specs.Handed.{Handed, polygonCount, meshIn, cornersAt, all_of, linkHolds}
-use Rattle.checker.specs.Asked.{linksIn}
+use Rattle.rules.specs.Handed.{Handed, polygon_count, mesh_in, corners_at, all_of, link_holds}
+use Rattle.checker.specs.Asked.{links_in}
 use Rattle.checker.specs.Steps.{PolygonAt}
-use Rattle.checker.proofs.Lent.{row_fits, links-fit, count-is, polygon-lent}
-use Rattle.checker.proofs.LinkCases.{side-fails, past-decides}
+use Rattle.checker.proofs.Lent.{row_fits, links_fit, count_is, polygon_lent}
+use Rattle.checker.proofs.LinkCases.{side_fails, past_decides}
 use borrow.Author.Rules.{rules}
 use Rattle.checker.proofs.linked.links_hold.Statement.{statement}
 use Rattle.checker.proofs.linked.links_hold.Tie as tie
 
 abbrev mesh : tie.Start → Handed
-mesh s = linksIn s.args.nvp s.args.polygons.now s.args.links.now
+mesh s = links_in s.args.nvp s.args.polygons.now s.args.links.now
 
 -- where the words of polygon i begin
 abbrev place : tie.Start → ℕ
@@ -26,7 +26,7 @@ place s = s.args.i * s.args.nvp
 abbrev wide : tie.Start → ℕ
 wide s = place s + s.args.nvp - place s
 
-inside : (s : tie.Start) → s.args.i < polygonCount (mesh s)
+inside : (s : tie.Start) → s.args.i < polygon_count (mesh s)
 inside s = omega (arith, s.requires.1, s.requires.2)
 
 -- the words of polygon i lie in the buffers
@@ -34,7 +34,7 @@ words : (s : tie.Start) → place s + s.args.nvp ≤ length s.args.polygons.now
 words s = row_fits (mesh s) s.requires.0 s.args.i (inside s)
 
 linked : (s : tie.Start) → place s + s.args.nvp ≤ length s.args.links.now
-linked s = links-fit (mesh s) s.requires.0 s.args.i (inside s)
+linked s = links_fit (mesh s) s.requires.0 s.args.i (inside s)
 
 -- its corners end there
 abbrev start : tie.After-corners-end → tie.Start
@@ -43,19 +43,19 @@ start c = c.before.before.before
 abbrev many : tie.After-corners-end → ℕ
 many c = c.corners-end.result - place (start c)
 
-counted : (c : tie.After-corners-end) → many c ≡ length (cornersAt (meshIn (mesh (start c))) (start c).args.i)
-counted c = let s = start c in count-is (mesh s) s.pre.0 s.args.i (inside s) c.corners-end.result c.corners-end.ensures
+counted : (c : tie.After-corners-end) → many c ≡ length (corners_at (mesh_in (mesh (start c))) (start c).args.i)
+counted c = let s = start c in count_is (mesh s) s.pre.0 s.args.i (inside s) c.corners-end.result c.corners-end.ensures
 
 lent : (c : tie.After-corners-end) → let s = start c in
     PolygonAt (mesh s) s.args.np s.args.i (view s.args.polygons.now (place s) (many c)) (view s.args.links.now (place s) (many c))
-lent c = let s = start c in polygon-lent (mesh s) s.pre.0 s.args.i (inside s) c.corners-end.result c.corners-end.ensures s.pre.1
+lent c = let s = start c in polygon_lent (mesh s) s.pre.0 s.args.i (inside s) c.corners-end.result c.corners-end.ensures s.pre.1
 
 -- what is said of its sides
 said : (c : tie.After-sides-hold) → let s = start c.before.before.before in
-    c.sides-hold.result ≡ all_of (linkHolds (meshIn (mesh s)) s.args.i) 0 (length (cornersAt (meshIn (mesh s)) s.args.i))
+    c.sides-hold.result ≡ all_of (link_holds (mesh_in (mesh s)) s.args.i) 0 (length (corners_at (mesh_in (mesh s)) s.args.i))
 said c =
     let s = start c.before.before.before in
-    c.sides-hold.ensures ∙ ap (λ (l : List ℕ). all_of (linkHolds (meshIn (mesh s)) s.args.i) 0 (length l)) (lent c.before.before.before).corners
+    c.sides-hold.ensures ∙ ap (λ (l : List ℕ). all_of (link_holds (mesh_in (mesh s)) s.args.i) 0 (length l)) (lent c.before.before.before).corners
 
 mul-from : tie.Need-overflow-mul-from
 mul-from c = record { fits = omega (arith, words c.before.before) }
@@ -117,10 +117,10 @@ returns c =
     let n = t.before.before.before.before in
     let s = start n in
     c.are-unlinked.ensures
-    ∙ past-decides (mesh s) s.args.i (said t.before) t.if1.true (wide s) (many n) (omega arith) (counted n) (linked s)
+    ∙ past_decides (mesh s) s.args.i (said t.before) t.if1.true (wide s) (many n) (omega arith) (counted n) (linked s)
 
 returns-2 : tie.Need-returns-2
-returns-2 c = let h = c.before in let s = start h.before.before.before in side-fails (mesh s) s.args.i (said h) c.if1.false
+returns-2 c = let h = c.before in let s = start h.before.before.before in side_fails (mesh s) s.args.i (said h) c.if1.false
 
 pub links-hold-spec : {M : Type 1} → statement M
 links-hold-spec =

@@ -2,23 +2,23 @@
 use mathlib.Core.Path.{sym, ◌∙◌}
 use Prim.Native.Nat.{◌-◌}
 use lib.ListN.{length}
-use Rattle.rules.specs.Handed.{meshIn, all_of, linkHolds}
-use Rattle.checker.specs.Asked.{linksIn}
-use Rattle.checker.proofs.Looking.{Passing, pass-begin, pass-next, pass-fails, pass-end}
+use Rattle.rules.specs.Handed.{mesh_in, all_of, link_holds}
+use Rattle.checker.specs.Asked.{links_in}
+use Rattle.checker.proofs.Looking.{Passing, pass_begin, pass_next, pass_fails, pass_end}
 use borrow.Author.Rules.{rules}
 use Rattle.checker.proofs.linked.sides_hold.Statement.{statement}
 use Rattle.checker.proofs.linked.sides_hold.Tie as tie
 
 abbrev invariant-loop : tie.invariant-loop
 invariant-loop nvp np polygons links i own mine j₀ j =
-    let holds = linkHolds (meshIn (linksIn nvp polygons links)) i in
+    let holds = link_holds (mesh_in (links_in nvp polygons links)) i in
     Passing holds (all_of holds 0 (length own)) (length own) j
 
 abbrev decreases-loop : tie.decreases-loop
 decreases-loop nvp np polygons links i own mine j₀ j = length own - j
 
 loop-holds : tie.Need-loop-init invariant-loop decreases-loop
-loop-holds c = pass-begin _ _ _
+loop-holds c = pass_begin _ _ _
 
 link-holds-requires : tie.Need-link-holds-requires invariant-loop decreases-loop
 link-holds-requires c κs = search rules
@@ -30,13 +30,13 @@ loop-less : tie.Need-loop-smaller invariant-loop decreases-loop
 loop-less c = search rules
 
 loop-again : tie.Need-loop-preserved invariant-loop decreases-loop
-loop-again c = pass-next c.before.before.before.loop.invariant c.before.before.loop-test.true (sym c.before.link-holds.ensures ∙ c.if1.true)
+loop-again c = pass_next c.before.before.before.loop.invariant c.before.before.loop-test.true (sym c.before.link-holds.ensures ∙ c.if1.true)
 
 returns : tie.Need-returns invariant-loop decreases-loop
-returns c = pass-fails c.before.before.before.loop.invariant c.before.before.loop-test.true (sym c.before.link-holds.ensures ∙ c.if1.false)
+returns c = pass_fails c.before.before.before.loop.invariant c.before.before.loop-test.true (sym c.before.link-holds.ensures ∙ c.if1.false)
 
 returns-2 : tie.Need-returns-2 invariant-loop decreases-loop
-returns-2 c = pass-end c.before.loop.invariant c.loop-test.false
+returns-2 c = pass_end c.before.loop.invariant c.loop-test.false
 
 pub sides-hold-spec : {M : Type 1} → statement M
 sides-hold-spec =

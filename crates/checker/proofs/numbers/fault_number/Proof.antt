@@ -1,6 +1,6 @@
 -- `checker::numbers::fault_number` meets its contract: each arm is the rules' number with its variant known. Assumes nothing.
 use mathlib.Core.Path.{refl}
-use Rattle.rules.specs.Handed.{faultNumber}
+use Rattle.rules.specs.Handed.{fault_number}
 use borrow.Author.Rules.{rules}
 use Rattle.checker.proofs.numbers.fault_number.Statement.{statement}
 use Rattle.checker.proofs.numbers.fault_number.Tie as tie
@@ -15,15 +15,15 @@ enum-told-3 : tie.Need-enum-told-3
 enum-told-3 c = search rules
 
 returns : tie.Need-returns
-unfolding faultNumber
+unfolding fault_number
 returns c = rw c.enum_told.given.1 refl
 
 returns-2 : tie.Need-returns-2
-unfolding faultNumber
+unfolding fault_number
 returns-2 c = rw c.enum-told2.given.1 refl
 
 returns-3 : tie.Need-returns-3
-unfolding faultNumber
+unfolding fault_number
 returns-3 c = rw c.enum-told3.given.1 refl
 
 pub fault-number-spec : {M : Type 1} → statement M

@@ -1,6 +1,6 @@
 -- `checker::numbers::verdict_number` meets its contract: each arm is the rules' number with its variant known. Assumes nothing.
 use mathlib.Core.Path.{refl}
-use Rattle.rules.specs.Checker.{verdictNumber}
+use Rattle.rules.specs.Checker.{verdict_number}
 use borrow.Author.Rules.{rules}
 use Rattle.checker.proofs.numbers.verdict_number.Statement.{statement}
 use Rattle.checker.proofs.numbers.verdict_number.Tie as tie
@@ -21,19 +21,19 @@ enum-told-3 : tie.Need-enum-told-3
 enum-told-3 c = search rules
 
 returns : tie.Need-returns
-unfolding verdictNumber
+unfolding verdict_number
 returns c = rw c.enum_told.given.1 refl
 
 returns-2 : tie.Need-returns-2
-unfolding verdictNumber
+unfolding verdict_number
 returns-2 c = rw c.before.before.verdict.given.1 c.fault-number.ensures
 
 returns-3 : tie.Need-returns-3
-unfolding verdictNumber
+unfolding verdict_number
 returns-3 c = rw c.enum-told2.given.1 refl
 
 returns-4 : tie.Need-returns-4
-unfolding verdictNumber
+unfolding verdict_number
 returns-4 c = rw c.enum-told3.given.1 refl
 
 pub verdict-number-spec : {M : Type 1} → statement M

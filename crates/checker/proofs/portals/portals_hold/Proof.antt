@@ -4,31 +4,31 @@ use Prim.Native.Nat.{ℕ, ◌+◌, ◌-◌, ◌*◌, ◌≤◌}
 use native.Mathlib.Omega.{arith}
 use lib.ListN.{length}
 use Rattle.mem.specs.Slice.{view}
-use Rattle.rules.specs.Handed.{Handed, polygonCount}
-use Rattle.checker.specs.Asked.{handedIn}
+use Rattle.rules.specs.Handed.{Handed, polygon_count}
+use Rattle.checker.specs.Asked.{handed_in}
 use Rattle.checker.specs.Steps.{RowsReady, PolygonAt}
-use Rattle.checker.proofs.Lent.{row_fits, links-fit, rows-ready, polygon-lent}
-use Rattle.checker.proofs.Bearing.{bears-is, sides-ready}
+use Rattle.checker.proofs.Lent.{row_fits, links_fit, rows_ready, polygon_lent}
+use Rattle.checker.proofs.Bearing.{bears_is, sides_ready}
 use borrow.Author.Rules.{rules}
 use Rattle.checker.proofs.portals.portals_hold.Statement.{statement}
 use Rattle.checker.proofs.portals.portals_hold.Tie as tie
 
 abbrev mesh : tie.Start → Handed
-mesh s = handedIn s.args.nvp s.args.vertices.now s.args.polygons.now s.args.links.now
+mesh s = handed_in s.args.nvp s.args.vertices.now s.args.polygons.now s.args.links.now
 
 -- where the words of polygon i begin
 abbrev place : tie.Start → ℕ
 place s = s.args.i * s.args.nvp
 
 ready : (s : tie.Start) → RowsReady (mesh s)
-ready s = rows-ready s.requires.0.buffers
+ready s = rows_ready s.requires.0.buffers
 
 -- the words of polygon i lie in the buffers
 words : (s : tie.Start) → place s + s.args.nvp ≤ length s.args.polygons.now
 words s = row_fits (mesh s) (ready s) s.args.i s.requires.1
 
 linked : (s : tie.Start) → place s + s.args.nvp ≤ length s.args.links.now
-linked s = links-fit (mesh s) (ready s) s.args.i s.requires.1
+linked s = links_fit (mesh s) (ready s) s.args.i s.requires.1
 
 -- its corners end there
 abbrev start : tie.After-corners-end → tie.Start
@@ -38,8 +38,8 @@ abbrev many : tie.After-corners-end → ℕ
 many c = c.corners-end.result - place (start c)
 
 lent : (c : tie.After-corners-end) → let s = start c in
-    PolygonAt (mesh s) (polygonCount (mesh s)) s.args.i (view s.args.polygons.now (place s) (many c)) (view s.args.links.now (place s) (many c))
-lent c = let s = start c in polygon-lent (mesh s) (ready s) s.args.i s.pre.1 c.corners-end.result c.corners-end.ensures refl
+    PolygonAt (mesh s) (polygon_count (mesh s)) s.args.i (view s.args.polygons.now (place s) (many c)) (view s.args.links.now (place s) (many c))
+lent c = let s = start c in polygon_lent (mesh s) (ready s) s.args.i s.pre.1 c.corners-end.result c.corners-end.ensures refl
 
 mul-from : tie.Need-overflow-mul-from
 mul-from c = record { fits = omega (arith, words c.before.before.before) }
@@ -75,7 +75,7 @@ sides-bear-requires : tie.Need-sides-bear-requires
 sides-bear-requires c κs =
     let n = c.before.before in
     let s = start n in
-    sides-ready s.args.nvp s.args.vertices.now s.args.polygons.now s.args.links.now s.args.i (lent n).corners
+    sides_ready s.args.nvp s.args.vertices.now s.args.polygons.now s.args.links.now s.args.i (lent n).corners
     s.pre.0 s.pre.1 (lent n).alike
 
 returns : tie.Need-returns
@@ -83,7 +83,7 @@ returns c =
     let n = c.before.before.before in
     let s = start n in
     c.sides-bear.ensures
-    ∙ bears-is s.args.nvp s.args.vertices.now s.args.polygons.now s.args.links.now s.args.i (lent n).corners
+    ∙ bears_is s.args.nvp s.args.vertices.now s.args.polygons.now s.args.links.now s.args.i (lent n).corners
     s.args.w s.args.h s.args.border (lent n).links
 
 pub portals-hold-spec : {M : Type 1} → statement M

@@ -2,8 +2,8 @@
 use Prim.Native.Nat.{◌<◌}
 use native.Mathlib.Omega.{arith}
 use lib.ListN.{length}
-use Rattle.laws.specs.Ring.{next-below}
-use Rattle.checker.proofs.Bearing.{not-open, open-decides}
+use Rattle.laws.specs.Ring.{next_below}
+use Rattle.checker.proofs.Bearing.{not_open, open_decides}
 use borrow.Author.Rules.{rules}
 use Rattle.checker.proofs.portals.side_bears.Statement.{statement}
 use Rattle.checker.proofs.portals.side_bears.Tie as tie
@@ -12,7 +12,7 @@ use Rattle.checker.proofs.portals.side_bears.Tie as tie
 below : (c : tie.After-next) → c.next.result < length c.before.before.before.before.before.before.args.own.now
 below c =
     let s = c.before.before.before.before.before.before in
-    rw c.next.ensures (next-below s.args.j (length s.args.own.now) (omega (arith, s.requires.1)))
+    rw c.next.ensures (next_below s.args.j (length s.args.own.now) (omega (arith, s.requires.1)))
 
 mul-l : tie.Need-overflow-mul-l
 mul-l c = search rules
@@ -23,7 +23,7 @@ shared-slice-read-l c = search rules
 returns : tie.Need-returns
 returns c =
     let s = c.before.before.before.before.before in
-    not-open s.requires.0 s.args.w s.args.h s.args.border s.args.j s.requires.1 c.if1.true
+    not_open s.requires.0 s.args.w s.args.h s.args.border s.args.j s.requires.1 c.if1.true
 
 next-requires : tie.Need-next-requires
 next-requires c κs = search rules
@@ -50,7 +50,7 @@ returns-2 : tie.Need-returns-2
 returns-2 c =
     let n = c.before.before.before in
     let s = n.before.before.before.before.before.before in
-    open-decides s.requires.0 s.args.w s.args.h s.args.border s.args.j s.requires.1 n.before.if1.false n.next.result
+    open_decides s.requires.0 s.args.w s.args.h s.args.border s.args.j s.requires.1 n.before.if1.false n.next.result
     c.open-link.result n.next.ensures c.open-link.ensures
 
 pub side-bears-spec : {M : Type 1} → statement M

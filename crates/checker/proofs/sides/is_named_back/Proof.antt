@@ -2,20 +2,20 @@
 use mathlib.Core.Path.{sym, ◌∙◌}
 use Prim.Native.Nat.{◌-◌}
 use lib.ListN.{length}
-use Rattle.rules.specs.Handed.{any_of, namesBack}
-use Rattle.checker.proofs.Looking.{Seeking, seek-begin, seek-next, seek_found, seek-end}
+use Rattle.rules.specs.Handed.{any_of, names_back}
+use Rattle.checker.proofs.Looking.{Seeking, seek_begin, seek_next, seek_found, seek_end}
 use borrow.Author.Rules.{rules}
 use Rattle.checker.proofs.sides.is_named_back.Statement.{statement}
 use Rattle.checker.proofs.sides.is_named_back.Tie as tie
 
 abbrev invariant-loop : tie.invariant-loop
-invariant-loop corners links a b i q₀ q = Seeking (namesBack corners links a b i) (any_of (namesBack corners links a b i) 0 (length corners)) (length corners) q
+invariant-loop corners links a b i q₀ q = Seeking (names_back corners links a b i) (any_of (names_back corners links a b i) 0 (length corners)) (length corners) q
 
 abbrev decreases-loop : tie.decreases-loop
 decreases-loop corners links a b i q₀ q = length corners - q
 
 loop-holds : tie.Need-loop-init invariant-loop decreases-loop
-loop-holds c = seek-begin _ _
+loop-holds c = seek_begin _ _
 
 names-back-requires : tie.Need-names-back-requires invariant-loop decreases-loop
 names-back-requires c κs = search rules
@@ -30,10 +30,10 @@ loop-less : tie.Need-loop-smaller invariant-loop decreases-loop
 loop-less c = search rules
 
 loop-again : tie.Need-loop-preserved invariant-loop decreases-loop
-loop-again c = seek-next c.before.before.before.loop.invariant c.before.before.loop-test.true (sym c.before.names-back.ensures ∙ c.if1.false)
+loop-again c = seek_next c.before.before.before.loop.invariant c.before.before.loop-test.true (sym c.before.names-back.ensures ∙ c.if1.false)
 
 returns-2 : tie.Need-returns-2 invariant-loop decreases-loop
-returns-2 c = seek-end c.before.loop.invariant c.loop-test.false
+returns-2 c = seek_end c.before.loop.invariant c.loop-test.false
 
 pub is-named-back-spec : {M : Type 1} → statement M
 is-named-back-spec =

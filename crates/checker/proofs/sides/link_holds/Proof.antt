@@ -3,8 +3,8 @@ use mathlib.Core.Path.{◌∙◌}
 use Prim.Native.Nat.{◌<◌}
 use native.Mathlib.Omega.{arith}
 use lib.ListN.{length}
-use Rattle.laws.specs.Ring.{next-below}
-use Rattle.checker.proofs.LinkCases.{open-side, past-last, itself, another}
+use Rattle.laws.specs.Ring.{next_below}
+use Rattle.checker.proofs.LinkCases.{open_side, past_last, itself, another}
 use borrow.Author.Rules.{rules}
 use Rattle.checker.proofs.sides.link_holds.Statement.{statement}
 use Rattle.checker.proofs.sides.link_holds.Tie as tie
@@ -13,7 +13,7 @@ use Rattle.checker.proofs.sides.link_holds.Tie as tie
 below : (c : tie.After-next) → c.next.result < length c.before.before.before.before.before.before.before.before.before.args.own.now
 below c =
     let s = c.before.before.before.before.before.before.before.before.before in
-    rw c.next.ensures (next-below s.args.j (length s.args.own.now) (omega (arith, s.requires.1)))
+    rw c.next.ensures (next_below s.args.j (length s.args.own.now) (omega (arith, s.requires.1)))
 
 mul-l : tie.Need-overflow-mul-l
 mul-l c = search rules
@@ -22,7 +22,7 @@ shared-slice-read-l : tie.Need-shared-slice-read-l
 shared-slice-read-l c = search rules
 
 returns : tie.Need-returns
-returns c = let s = c.before.before.before.before.before.before in open-side s.requires.0 s.args.j s.requires.1 c.if1.true
+returns c = let s = c.before.before.before.before.before.before in open_side s.requires.0 s.args.j s.requires.1 c.if1.true
 
 cast-other : tie.Need-overflow-cast-other
 cast-other c = search rules
@@ -30,7 +30,7 @@ cast-other c = search rules
 returns-2 : tie.Need-returns-2
 returns-2 c =
     let s = c.before.before.before.before.before.before.before in
-    past-last s.requires.0 s.args.j s.requires.1 c.before.if1.false c.if2.true
+    past_last s.requires.0 s.args.j s.requires.1 c.before.if1.false c.if2.true
 
 returns-3 : tie.Need-returns-3
 returns-3 c =

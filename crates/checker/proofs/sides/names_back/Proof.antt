@@ -2,8 +2,8 @@
 use Prim.Native.Nat.{◌<◌}
 use native.Mathlib.Omega.{arith}
 use lib.ListN.{length}
-use Rattle.laws.specs.Ring.{next-below}
-use Rattle.checker.proofs.Names.{not-from, not-to, link-decides}
+use Rattle.laws.specs.Ring.{next_below}
+use Rattle.checker.proofs.Names.{not_from, not_to, link_decides}
 use borrow.Author.Rules.{rules}
 use Rattle.checker.proofs.sides.names_back.Statement.{statement}
 use Rattle.checker.proofs.sides.names_back.Tie as tie
@@ -12,7 +12,7 @@ use Rattle.checker.proofs.sides.names_back.Tie as tie
 below : (c : tie.After-next) → c.next.result < length c.before.before.before.before.before.args.corners.now
 below c =
     let s = c.before.before.before.before.before in
-    rw c.next.ensures (next-below s.args.q (length s.args.corners.now) (omega (arith, s.requires.0)))
+    rw c.next.ensures (next_below s.args.q (length s.args.corners.now) (omega (arith, s.requires.0)))
 
 mul-if1 : tie.Need-overflow-mul-if1
 mul-if1 c = search rules
@@ -38,13 +38,13 @@ shared-slice-read-result c = search rules
 returns : tie.Need-returns
 returns c =
     let n = c.before.before.before in
-    link-decides _ _ _ _ _ _ n.before.if1.true _ n.next.ensures (search rules) c.before.if2.true
+    link_decides _ _ _ _ _ _ n.before.if1.true _ n.next.ensures (search rules) c.before.if2.true
 
 returns-2 : tie.Need-returns-2
-returns-2 c = not-to _ _ _ _ _ _ c.before.before.before.if1.true _ c.before.before.next.ensures c.if2.false
+returns-2 c = not_to _ _ _ _ _ _ c.before.before.before.if1.true _ c.before.before.next.ensures c.if2.false
 
 returns-3 : tie.Need-returns-3
-returns-3 c = not-from _ _ _ _ _ _ c.if1.false
+returns-3 c = not_from _ _ _ _ _ _ c.if1.false
 
 pub names-back-spec : {M : Type 1} → statement M
 names-back-spec =

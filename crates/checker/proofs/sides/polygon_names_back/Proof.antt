@@ -4,16 +4,16 @@ use Prim.Native.Nat.{ℕ, ◌+◌, ◌-◌, ◌*◌, ◌≤◌}
 use native.Mathlib.Omega.{arith}
 use lib.ListN.{length}
 use Rattle.mem.specs.Slice.{view}
-use Rattle.rules.specs.Handed.{Handed, polygonCount}
-use Rattle.checker.specs.Asked.{linksIn}
+use Rattle.rules.specs.Handed.{Handed, polygon_count}
+use Rattle.checker.specs.Asked.{links_in}
 use Rattle.checker.specs.Steps.{PolygonAt}
-use Rattle.checker.proofs.Lent.{row_fits, links-fit, polygon-lent}
+use Rattle.checker.proofs.Lent.{row_fits, links_fit, polygon_lent}
 use borrow.Author.Rules.{rules}
 use Rattle.checker.proofs.sides.polygon_names_back.Statement.{statement}
 use Rattle.checker.proofs.sides.polygon_names_back.Tie as tie
 
 abbrev mesh : tie.Start → Handed
-mesh s = linksIn s.args.nvp s.args.polygons.now s.args.links.now
+mesh s = links_in s.args.nvp s.args.polygons.now s.args.links.now
 
 -- where the words of polygon l begin
 abbrev place : tie.Start → ℕ
@@ -24,7 +24,7 @@ words : (s : tie.Start) → place s + s.args.nvp ≤ length s.args.polygons.now
 words s = row_fits (mesh s) s.requires.0 s.args.l s.requires.1
 
 linked : (s : tie.Start) → place s + s.args.nvp ≤ length s.args.links.now
-linked s = links-fit (mesh s) s.requires.0 s.args.l s.requires.1
+linked s = links_fit (mesh s) s.requires.0 s.args.l s.requires.1
 
 -- its corners end there
 abbrev start : tie.After-corners-end → tie.Start
@@ -34,8 +34,8 @@ abbrev many : tie.After-corners-end → ℕ
 many c = c.corners-end.result - place (start c)
 
 lent : (c : tie.After-corners-end) → let s = start c in
-    PolygonAt (mesh s) (polygonCount (mesh s)) s.args.l (view s.args.polygons.now (place s) (many c)) (view s.args.links.now (place s) (many c))
-lent c = let s = start c in polygon-lent (mesh s) s.pre.0 s.args.l s.pre.1 c.corners-end.result c.corners-end.ensures refl
+    PolygonAt (mesh s) (polygon_count (mesh s)) s.args.l (view s.args.polygons.now (place s) (many c)) (view s.args.links.now (place s) (many c))
+lent c = let s = start c in polygon_lent (mesh s) s.pre.0 s.args.l s.pre.1 c.corners-end.result c.corners-end.ensures refl
 
 mul-from : tie.Need-overflow-mul-from
 mul-from c = record { fits = omega (arith, words c.before.before) }

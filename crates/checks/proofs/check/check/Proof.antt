@@ -5,11 +5,11 @@ use mathlib.Core.List.{List}
 use Prim.Native.Nat.{ℕ}
 use borrow.Author.Rules.{rules}
 use Rattle.rules.specs.Job.{Job}
-use Rattle.rules.specs.Checks.{checkNvp, checkCounts, checkV, check}
+use Rattle.rules.specs.Checks.{check_nvp, check_counts, check_v, check}
 use Rattle.laws.specs.Checks.{Agreed}
 use Rattle.checks.specs.Answers.{job_of, verdictOf}
-use Rattle.checks.proofs.Order.{limit-low, counts-agreed, few, vertexChecks, room_check, Left-2, Left-3, Left-5, all_left, past, stop}
-use Rattle.checks.proofs.InHand.{numbers_fit, vertices-are, many_is, t-below, room-is}
+use Rattle.checks.proofs.Order.{limit_low, counts_agreed, few, vertex_checks, room_check, Left-2, Left-3, Left-5, all_left, past, stop}
+use Rattle.checks.proofs.InHand.{numbers_fit, vertices_are, many_is, t_below, room_is}
 use Rattle.checks.proofs.check.check.Statement.{statement}
 use Rattle.checks.proofs.check.check.Tie as tie
 
@@ -35,32 +35,32 @@ lent s = s.args.have
 
 -- what each check says of it, and what is left once it has passed
 module _ (w h border : ℕ) where
-  limit-says : (c : tie.After-check-nvp) → c.check-nvp.result ≡ verdictOf (checkNvp (job c.before.before.before.before.before w h border))
+  limit-says : (c : tie.After-check-nvp) → c.check-nvp.result ≡ verdictOf (check_nvp (job c.before.before.before.before.before w h border))
   limit-says c = c.check-nvp.ensures (job c.before.before.before.before.before w h border) refl
 
   left-2 : (c : tie.After-enum-told) → Left-2 (job (start-2 c) w h border) (lent (start-2 c))
   left-2 c = record { same = past (all_left _ _) (limit-says c.before.before) c.enum_told.given.1 }
 
-  counts-say : (c : tie.After-check-counts) → c.check-counts.result ≡ verdictOf (checkCounts (job (start-2 c.before) w h border))
+  counts-say : (c : tie.After-check-counts) → c.check-counts.result ≡ verdictOf (check_counts (job (start-2 c.before) w h border))
   counts-say c = c.check-counts.ensures (start-2 c.before).args.nvp w h border
 
   left-3 : (c : tie.After-enum-told3) → Left-3 (job (start-3 c) w h border) (lent (start-3 c))
   left-3 c = record { same = past (left-2 c.before.before.before) (counts-say c.before.before) c.enum-told3.given.1 }
 
-  vertices-say : (c : tie.After-or-next) → c.or-next.result ≡ verdictOf (vertexChecks (job (start-3 c.before.before.before.before) w h border))
-  vertices-say c = vertices-are (job (start-3 c.before.before.before.before) w h border) c.before.before.before.count-all.ensures.is c.before.before.check-high.ensures c.before.check-flags.ensures c.or-next.ensures
+  vertices-say : (c : tie.After-or-next) → c.or-next.result ≡ verdictOf (vertex_checks (job (start-3 c.before.before.before.before) w h border))
+  vertices-say c = vertices_are (job (start-3 c.before.before.before.before) w h border) c.before.before.before.count-all.ensures.is c.before.before.check-high.ensures c.before.check-flags.ensures c.or-next.ensures
 
   left-5 : (c : tie.After-enum-told5) → Left-5 (job (start-5 c) w h border) (lent (start-5 c))
   left-5 c = record { same = past (left-3 c.before.before.before.before.before.before) (vertices-say c.before.before) c.enum-told5.given.1 }
 
-  many-says : (c : tie.After-check-v) → c.check-v.result ≡ verdictOf (checkV (job (start-5 c.before.before) w h border))
+  many-says : (c : tie.After-check-v) → c.check-v.result ≡ verdictOf (check_v (job (start-5 c.before.before) w h border))
   many-says c = many_is (job (start-5 c.before.before) w h border) c.before.count-v.ensures c.check-v.ensures
 
   left-6 : (c : tie.After-enum-told7) → verdictOf (room_check (job (start-6 c) w h border) (lent (start-6 c))) ≡ verdictOf (check (job (start-6 c) w h border) (lent (start-6 c)))
   left-6 c = past (left-5 c.before.before.before.before) (many-says c.before.before) c.enum-told7.given.1
 
 agreed-now : (c : tie.After-enum-told3) → Agreed (job (start-3 c) 0 0 0)
-agreed-now c = counts-agreed (job (start-3 c) 0 0 0) (counts-say 0 0 0 c.before.before) c.enum-told3.given.1
+agreed-now c = counts_agreed (job (start-3 c) 0 0 0) (counts-say 0 0 0 c.before.before) c.enum-told3.given.1
 
 check-nvp-requires : tie.Need-check-nvp-requires
 check-nvp-requires c κs = search rules
@@ -127,15 +127,15 @@ count-t-requires c κs = (agreed-now c.before.before.before.before.before.before
 
 check-room-requires : tie.Need-check-room-requires
 check-room-requires c κs = record {
-  nvp-most = limit-low (job (start-6 c.before) 0 0 0) (limit-says 0 0 0 c.before.before.before.before.before.before.before.before.before.before.before.before.before.before.before.before) c.before.before.before.before.before.before.before.before.before.before.before.before.before.before.enum_told.given.1;
-  v-most = few c.before.before.before.check-v.ensures c.before.enum-told7.given.1;
-  t-most = t-below (job (start-6 c.before) 0 0 0) c.before.before.before.before.count-v.ensures c.count-t.ensures;
+  nvp_most = limit_low (job (start-6 c.before) 0 0 0) (limit-says 0 0 0 c.before.before.before.before.before.before.before.before.before.before.before.before.before.before.before.before) c.before.before.before.before.before.before.before.before.before.before.before.before.before.before.enum_told.given.1;
+  v_most = few c.before.before.before.check-v.ensures c.before.enum-told7.given.1;
+  t_most = t_below (job (start-6 c.before) 0 0 0) c.before.before.before.before.count-v.ensures c.count-t.ensures;
 }
 
 returns-5 : tie.Need-returns-5
 returns-5 c w h border =
     let s = start-6 c.before.before in
-    room-is (job s w h border) c.before.before.before.before.before.count-v.ensures c.before.count-t.ensures (lent s) c.check-room.ensures ∙ left-6 w h border c.before.before
+    room_is (job s w h border) c.before.before.before.before.before.count-v.ensures c.before.count-t.ensures (lent s) c.check-room.ensures ∙ left-6 w h border c.before.before
 
 pub check-spec : {M : Type 1} → statement M
 check-spec =

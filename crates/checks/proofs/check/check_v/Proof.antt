@@ -2,17 +2,17 @@
 use mathlib.Core.Path.{refl}
 use native.Mathlib.Omega.{arith}
 use borrow.Author.Tests.{lt-ltb, le-ltb}
-use Rattle.rules.specs.Checks.{refuseIf}
+use Rattle.rules.specs.Checks.{refuse_if}
 use Rattle.checks.specs.Answers.{verdictOf}
 use Rattle.checks.proofs.check.check_v.Statement.{statement}
 use Rattle.checks.proofs.check.check_v.Tie as tie
 
 returns : tie.Need-returns
-unfolding verdictOf refuseIf
+unfolding verdictOf refuse_if
 returns c = rw (lt-ltb 65535 c.before.args.v (omega arith)) refl
 
 returns-2 : tie.Need-returns-2
-unfolding verdictOf refuseIf
+unfolding verdictOf refuse_if
 returns-2 c = rw (le-ltb 65535 c.before.args.v (omega arith)) refl
 
 pub check-v-spec : {M : Type 1} → statement M

@@ -4,7 +4,7 @@ use Prim.Native.Nat.{◌-◌}
 use native.Mathlib.Omega.{arith}
 use lib.ListN.{length}
 use borrow.Author.Rules.{rules}
-use Rattle.checks.proofs.Adding.{Adding, adding-begin, adding-more, adding-end}
+use Rattle.checks.proofs.Adding.{Adding, adding_begin, adding_more, adding_end}
 use Rattle.checks.proofs.counts.sum_of.Statement.{statement}
 use Rattle.checks.proofs.counts.sum_of.Tie as tie
 
@@ -15,7 +15,7 @@ abbrev decreases-loop : tie.decreases-loop
 decreases-loop part lengths sum₀ i₀ sum i = length lengths - i
 
 loop-holds : tie.Need-loop-init invariant-loop decreases-loop
-loop-holds c = adding-begin c.before.args.part c.before.args.lengths.now
+loop-holds c = adding_begin c.before.args.part c.before.args.lengths.now
 
 mul-part-in : tie.Need-overflow-mul-part-in invariant-loop decreases-loop
 mul-part-in c = search rules
@@ -36,10 +36,10 @@ loop-less : tie.Need-loop-smaller invariant-loop decreases-loop
 loop-less c = search rules
 
 loop-again : tie.Need-loop-preserved invariant-loop decreases-loop
-loop-again c = adding-more c.before.before.before.loop.invariant c.before.before.loop-test.true (c.before.shared-slice-known2.given c.before.before.before.loop.i).fits c.part_in.ensures
+loop-again c = adding_more c.before.before.before.loop.invariant c.before.before.loop-test.true (c.before.shared-slice-known2.given c.before.before.before.loop.i).fits c.part_in.ensures
 
 returns : tie.Need-returns invariant-loop decreases-loop
-returns c = adding-end c.before.loop.invariant c.loop-test.false (search rules)
+returns c = adding_end c.before.loop.invariant c.loop-test.false (search rules)
 
 pub sum-of-spec : {M : Type 1} → statement M
 sum-of-spec =

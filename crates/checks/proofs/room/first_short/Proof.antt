@@ -4,8 +4,8 @@ use lib.Dec.{ltb}
 use lib.ListN.{length, get_or}
 use borrow.Author.Tests.{lt-ltb, le-ltb}
 use borrow.Author.Rules.{rules}
-use Rattle.rules.specs.Checks.{firstShort}
-use Rattle.checks.proofs.Seeking.{Seeking, seek-begin, seek-next, seek_hit, seek-end}
+use Rattle.rules.specs.Checks.{first_short}
+use Rattle.checks.proofs.Seeking.{Seeking, seek_begin, seek_next, seek_hit, seek_end}
 use Rattle.checks.proofs.room.first_short.Statement.{statement}
 use Rattle.checks.proofs.room.first_short.Tie as tie
 
@@ -16,7 +16,7 @@ abbrev decreases-loop : tie.decreases-loop
 decreases-loop have least found₀ k₀ found k = 7 - k
 
 loop-holds : tie.Need-loop-init invariant-loop decreases-loop
-loop-holds c = seek-begin _ _
+loop-holds c = seek_begin _ _
 
 mul-if1 : tie.Need-overflow-mul-if1 invariant-loop decreases-loop
 mul-if1 c = search rules
@@ -37,14 +37,14 @@ loop-less : tie.Need-loop-smaller invariant-loop decreases-loop
 loop-less c = search rules
 
 loop-again : tie.Need-loop-preserved invariant-loop decreases-loop
-loop-again c = seek-next c.before.before.loop.invariant (search rules) (le-ltb _ _ c.if1.false)
+loop-again c = seek_next c.before.before.loop.invariant (search rules) (le-ltb _ _ c.if1.false)
 
 returns : tie.Need-returns invariant-loop decreases-loop
-unfolding firstShort
-returns c = seek-end c.before.loop.invariant (search rules)
+unfolding first_short
+returns c = seek_end c.before.loop.invariant (search rules)
 
 returns-2 : tie.Need-returns-2 invariant-loop decreases-loop
-unfolding firstShort
+unfolding first_short
 returns-2 c = seek_hit c.before.before.loop.invariant (search rules) (lt-ltb _ _ c.if1.true)
 
 pub first-short-spec : {M : Type 1} → statement M

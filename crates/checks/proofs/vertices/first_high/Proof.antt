@@ -2,21 +2,21 @@
 use mathlib.Core.Path.{sym, ◌∙◌}
 use Prim.Native.Nat.{◌-◌}
 use borrow.Author.Rules.{rules}
-use Rattle.rules.specs.Job.{vertexAt}
-use Rattle.rules.specs.Checks.{isHigh}
+use Rattle.rules.specs.Job.{vertex_at}
+use Rattle.rules.specs.Checks.{is_high}
 use Rattle.checks.specs.Answers.{firstHighIn}
-use Rattle.checks.proofs.Seeking.{Seeking, seek-begin, seek-next, seek_hit, seek-end}
+use Rattle.checks.proofs.Seeking.{Seeking, seek_begin, seek_next, seek_hit, seek_end}
 use Rattle.checks.proofs.vertices.first_high.Statement.{statement}
 use Rattle.checks.proofs.vertices.first_high.Tie as tie
 
 abbrev invariant-loop : tie.invariant-loop
-invariant-loop numbers n found₀ k₀ found k = Seeking (λ i. isHigh (vertexAt numbers i)) n k found
+invariant-loop numbers n found₀ k₀ found k = Seeking (λ i. is_high (vertex_at numbers i)) n k found
 
 abbrev decreases-loop : tie.decreases-loop
 decreases-loop numbers n found₀ k₀ found k = n - k
 
 loop-holds : tie.Need-loop-init invariant-loop decreases-loop
-loop-holds c = seek-begin _ c.before.args.n
+loop-holds c = seek_begin _ c.before.args.n
 
 is-high-requires : tie.Need-is-high-requires invariant-loop decreases-loop
 is-high-requires c κs = search rules
@@ -28,11 +28,11 @@ loop-less : tie.Need-loop-smaller invariant-loop decreases-loop
 loop-less c = search rules
 
 loop-again : tie.Need-loop-preserved invariant-loop decreases-loop
-loop-again c = seek-next c.before.before.before.loop.invariant c.before.before.loop-test.true (sym c.before.is-high.ensures ∙ c.if1.false)
+loop-again c = seek_next c.before.before.before.loop.invariant c.before.before.loop-test.true (sym c.before.is-high.ensures ∙ c.if1.false)
 
 returns : tie.Need-returns invariant-loop decreases-loop
 unfolding firstHighIn
-returns c = seek-end c.before.loop.invariant c.loop-test.false
+returns c = seek_end c.before.loop.invariant c.loop-test.false
 
 returns-2 : tie.Need-returns-2 invariant-loop decreases-loop
 unfolding firstHighIn

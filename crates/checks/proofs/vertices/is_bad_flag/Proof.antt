@@ -1,7 +1,7 @@
 -- `checks::vertices::is_bad_flag` meets its contract: the number that it reads is the flag of the definition. Assumes nothing.
 use mathlib.Core.Path.{refl}
 use borrow.Author.Rules.{rules}
-use Rattle.rules.specs.Job.{flagAt}
+use Rattle.rules.specs.Job.{flag_at}
 use Rattle.checks.proofs.vertices.is_bad_flag.Statement.{statement}
 use Rattle.checks.proofs.vertices.is_bad_flag.Tie as tie
 
@@ -18,7 +18,7 @@ shared-slice-read-result : tie.Need-shared-slice-read-result
 shared-slice-read-result c = search rules
 
 returns : tie.Need-returns
-unfolding flagAt
+unfolding flag_at
 returns c = refl
 
 pub is-bad-flag-spec : {M : Type 1} → statement M

@@ -1,8 +1,8 @@
 -- `checks::vertices::is_high` meets its contract: the two numbers that it reads are x and z of the definition. Assumes nothing.
 use mathlib.Core.Path.{refl}
 use borrow.Author.Rules.{rules}
-use Rattle.rules.specs.Job.{vertexAt}
-use Rattle.rules.specs.Checks.{isHigh}
+use Rattle.rules.specs.Job.{vertex_at}
+use Rattle.rules.specs.Checks.{is_high}
 use Rattle.checks.proofs.vertices.is_high.Statement.{statement}
 use Rattle.checks.proofs.vertices.is_high.Tie as tie
 
@@ -25,7 +25,7 @@ shared-slice-read-result-2 : tie.Need-shared-slice-read-result-2
 shared-slice-read-result-2 c = search rules
 
 returns : tie.Need-returns
-unfolding isHigh vertexAt
+unfolding is_high vertex_at
 returns c = refl
 
 pub is-high-spec : {M : Type 1} → statement M

@@ -2,7 +2,7 @@
 use mir.Syntax.{w64}
 use mir.Val.{SFits}
 use mir.Facts.{to_z-of_z}
-use Rattle.checksheet.proofs.MeshesRead.{mesh-open, mesh-missed, lists-asked, mesh-claimed, mesh-unread}
+use Rattle.checksheet.proofs.MeshesRead.{mesh_open, mesh_missed, lists_asked, mesh_claimed, mesh_unread}
 use borrow.Author.Rules.{rules}
 use Rattle.checksheet.proofs.claim.read_mesh.Statement.{statement}
 use Rattle.checksheet.proofs.claim.read_mesh.Tie as tie
@@ -17,7 +17,7 @@ find-requires c κs = search rules
 returns : tie.Need-returns
 returns c =
     let s = c.before.before.before.before.before.before in
-    mesh-open s.args.text.now s.args.x c.before.find.ensures.0 c.if1.true _ _ _
+    mesh_open s.args.text.now s.args.x c.before.find.ensures.0 c.if1.true _ _ _
 
 sub-mesh-cells : tie.Need-overflow-sub-mesh-cells
 sub-mesh-cells c = search rules
@@ -51,7 +51,7 @@ read-lists-requires c κs =
     let at-if1 = at-mesh-cells.before.before in
     let at-find = at-if1.before in
     let s = at-find.before.before.before.before.before in
-    lists-asked s.args.text.now s.args.x at-find.find.ensures.0 at-if1.if1.false at-mesh-cells.mesh-cells.ensures at-counts.k.given.1
+    lists_asked s.args.text.now s.args.x at-find.find.ensures.0 at-if1.if1.false at-mesh-cells.mesh-cells.ensures at-counts.k.given.1
     s.requires at-row-words.row_words.ensures
 
 same_length : tie.Need-same-length
@@ -73,7 +73,7 @@ returns-2 c =
     let at-if1 = at-mesh-cells.before.before in
     let at-find = at-if1.before in
     let s = at-find.before.before.before.before.before in
-    mesh-claimed s.args.text.now s.args.x at-find.find.ensures.0 at-if1.if1.false at-mesh-cells.mesh-cells.ensures at-counts.k.given.1
+    mesh_claimed s.args.text.now s.args.x at-find.find.ensures.0 at-if1.if1.false at-mesh-cells.mesh-cells.ensures at-counts.k.given.1
     at-row-words.row_words.ensures at-read-lists.read-lists.ensures (to_z-of_z (total-fits at_told)) c.if2.true
 
 returns-3 : tie.Need-returns-3
@@ -82,7 +82,7 @@ returns-3 c =
     let at-if1 = at-mesh-cells.before.before in
     let at-find = at-if1.before in
     let s = at-find.before.before.before.before.before in
-    mesh-missed s.args.text.now s.args.x at-find.find.ensures.0 at-if1.if1.false at-mesh-cells.mesh-cells.ensures c.enum_told.given.1
+    mesh_missed s.args.text.now s.args.x at-find.find.ensures.0 at-if1.if1.false at-mesh-cells.mesh-cells.ensures c.enum_told.given.1
     _ _ _
 
 same-length-4 : tie.Need-same-length-4
@@ -103,7 +103,7 @@ returns-4 c =
     let at-if1 = at-mesh-cells.before.before in
     let at-find = at-if1.before in
     let s = at-find.before.before.before.before.before in
-    mesh-unread s.args.text.now s.args.x at-find.find.ensures.0 at-if1.if1.false at-mesh-cells.mesh-cells.ensures at-counts.k.given.1
+    mesh_unread s.args.text.now s.args.x at-find.find.ensures.0 at-if1.if1.false at-mesh-cells.mesh-cells.ensures at-counts.k.given.1
     at-row-words.row_words.ensures at-read-lists.read-lists.ensures c.if2.false
 
 pub read-mesh-spec : {M : Type 1} → statement M

@@ -6,8 +6,8 @@ use mir.Syntax.{w64}
 use mir.Val.{SFits}
 use mir.Facts.{to_z-of_z}
 use Rattle.rules.specs.Lines.{ascii}
-use Rattle.rules.specs.Sheet.{meshName}
-use Rattle.checksheet.proofs.MeshLines.{other-count, last-later, counts-bad, total-bad, mesh-counted}
+use Rattle.rules.specs.Sheet.{mesh_name}
+use Rattle.checksheet.proofs.MeshLines.{other_count, last_later, counts_bad, total_bad, mesh_counted}
 use borrow.Author.Rules.{rules}
 use Rattle.checksheet.proofs.counts.mesh_cells.Statement.{statement}
 use Rattle.checksheet.proofs.counts.mesh_cells.Tie as tie
@@ -19,7 +19,7 @@ count-cells-requires : tie.Need-count-cells-requires
 count-cells-requires c κs = search rules
 
 sub-read-numbers : tie.Need-overflow-sub-read-numbers
-sub-read-numbers c = last-later c.before.before.last-cell.ensures (sym c.before.count-cells.ensures ∙ c.if1.true)
+sub-read-numbers c = last_later c.before.before.last-cell.ensures (sym c.before.count-cells.ensures ∙ c.if1.true)
 
 slice-aggregate-read-numbers : tie.Need-slice-aggregate-read-numbers
 slice-aggregate-read-numbers c = sym (length-take-le _ _ (omega (arith, c.before.before.before.last-cell.ensures.within)))
@@ -52,7 +52,7 @@ enum_told : tie.Need-enum-told
 enum_told c = search rules
 
 returns : tie.Need-returns
-unfolding meshName ascii
+unfolding mesh_name ascii
 returns c =
     let at-signed = c.before.before.before in
     let at-if2 = at-signed.before.before in
@@ -61,11 +61,11 @@ returns c =
     let at-count-cells = at-four.before in
     let at-last-cell = at-count-cells.before in
     let f : SFits w64 c.before.z.given.0.0 = search rules in
-    mesh-counted at-last-cell.last-cell.ensures (sym at-count-cells.count-cells.ensures ∙ at-four.if1.true) at-numbers.read-numbers.ensures
+    mesh_counted at-last-cell.last-cell.ensures (sym at-count-cells.count-cells.ensures ∙ at-four.if1.true) at-numbers.read-numbers.ensures
     at-if2.if2.true at-signed.read-signed.ensures c.before.z.given.1 (to_z-of_z f)
 
 returns-2 : tie.Need-returns-2
-unfolding meshName ascii
+unfolding mesh_name ascii
 returns-2 c =
     let at-signed = c.before.before in
     let at-if2 = at-signed.before.before in
@@ -73,21 +73,21 @@ returns-2 c =
     let at-four = at-numbers.before.before.before.before in
     let at-count-cells = at-four.before in
     let at-last-cell = at-count-cells.before in
-    total-bad at-last-cell.last-cell.ensures (sym at-count-cells.count-cells.ensures ∙ at-four.if1.true) at-numbers.read-numbers.ensures
+    total_bad at-last-cell.last-cell.ensures (sym at-count-cells.count-cells.ensures ∙ at-four.if1.true) at-numbers.read-numbers.ensures
     at-if2.if2.true at-signed.read-signed.ensures c.enum_told.given.1
 
 returns-3 : tie.Need-returns-3
-unfolding meshName ascii
+unfolding mesh_name ascii
 returns-3 c =
     let at-numbers = c.before in
     let at-four = at-numbers.before.before.before.before in
     let at-count-cells = at-four.before in
     let at-last-cell = at-count-cells.before in
-    counts-bad at-last-cell.last-cell.ensures (sym at-count-cells.count-cells.ensures ∙ at-four.if1.true) at-numbers.read-numbers.ensures
+    counts_bad at-last-cell.last-cell.ensures (sym at-count-cells.count-cells.ensures ∙ at-four.if1.true) at-numbers.read-numbers.ensures
     c.if2.false
 
 returns-4 : tie.Need-returns-4
-returns-4 c = other-count _ (λ e. c.if1.false (c.before.count-cells.ensures ∙ e))
+returns-4 c = other_count _ (λ e. c.if1.false (c.before.count-cells.ensures ∙ e))
 
 pub mesh-cells-spec : {M : Type 1} → statement M
 mesh-cells-spec =

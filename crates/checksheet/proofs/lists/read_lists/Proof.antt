@@ -1,5 +1,5 @@
 -- `checksheet::lists::read_lists` meets its contract: the vertices, the polygons, and no line behind them. Assumes nothing.
-use Rattle.checksheet.proofs.ListLines.{lists-bad, lists-stopped, lists-over, lists-end}
+use Rattle.checksheet.proofs.ListLines.{lists_bad, lists_stopped, lists_over, lists_end}
 use borrow.Author.Rules.{rules}
 use Rattle.checksheet.proofs.lists.read_lists.Statement.{statement}
 use Rattle.checksheet.proofs.lists.read_lists.Tie as tie
@@ -29,7 +29,7 @@ returns c =
     let at-if1 = at-read-polygons.before.before.before in
     let at_places = at-if1.before.before.before in
     let s = at_places.before.before.before.before.before.before in
-    lists-over at_places.read-places.ensures s.args.words s.args.n at-if1.if1.true at-read-polygons.read-polygons.ensures
+    lists_over at_places.read-places.ensures s.args.words s.args.n at-if1.if1.true at-read-polygons.read-polygons.ensures
     at-if2.if2.true c.before.if3.true c.stopped.ensures
 
 same-length-4 : tie.Need-same-length-4
@@ -48,7 +48,7 @@ returns-2 c =
     let at-if1 = at-read-polygons.before.before.before in
     let at_places = at-if1.before.before.before in
     let s = at_places.before.before.before.before.before.before in
-    lists-end at_places.read-places.ensures s.args.words s.args.n at-if1.if1.true at-read-polygons.read-polygons.ensures
+    lists_end at_places.read-places.ensures s.args.words s.args.n at-if1.if1.true at-read-polygons.read-polygons.ensures
     at-if2.if2.true c.if3.false
 
 same-length-7 : tie.Need-same-length-7
@@ -66,7 +66,7 @@ returns-3 c =
     let at-if1 = at-read-polygons.before.before.before in
     let at_places = at-if1.before.before.before in
     let s = at_places.before.before.before.before.before.before in
-    lists-stopped at_places.read-places.ensures s.args.words s.args.n at-if1.if1.true at-read-polygons.read-polygons.ensures c.if2.false
+    lists_stopped at_places.read-places.ensures s.args.words s.args.n at-if1.if1.true at-read-polygons.read-polygons.ensures c.if2.false
 
 same-length-10 : tie.Need-same-length-10
 same-length-10 c = search rules
@@ -75,7 +75,7 @@ returns-4 : tie.Need-returns-4
 returns-4 c =
     let at-read-places = c.before.before.before in
     let s = at-read-places.before.before.before.before.before.before in
-    lists-bad at-read-places.read-places.ensures s.args.words s.args.n c.if1.false _ _
+    lists_bad at-read-places.read-places.ensures s.args.words s.args.n c.if1.false _ _
 
 pub read-lists-spec : {M : Type 1} → statement M
 read-lists-spec =

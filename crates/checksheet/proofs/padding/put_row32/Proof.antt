@@ -4,7 +4,7 @@ use Prim.Native.Nat.{◌-◌}
 use native.Mathlib.Omega.{arith}
 use lib.ListN.{length, get_or}
 use Rattle.mem.specs.Tab.{Filled, filled_none, filled_more}
-use Rattle.checksheet.proofs.Padded.{padded-put}
+use Rattle.checksheet.proofs.Padded.{padded_put}
 use borrow.Author.Rules.{rules}
 use Rattle.checksheet.proofs.padding.put_row32.Statement.{statement}
 use Rattle.checksheet.proofs.padding.put_row32.Tie as tie
@@ -66,7 +66,7 @@ returns c =
     let at-loop-test = at_fill_lem.before.before in
     let at-loop = at-loop-test.before in
     let s = at-loop.before.before.before in
-    padded-put s.args.values.now s.args.row.now s.args.at s.args.n at-loop.loop.i at-loop.loop.invariant at-loop-test.loop-test.false
+    padded_put s.args.values.now s.args.row.now s.args.at s.args.n at-loop.loop.i at-loop.loop.invariant at-loop-test.loop-test.false
     at_fill_lem.fill.ensures
 
 pub put-row32-spec : {M : Type 1} → statement M

@@ -2,18 +2,18 @@
 use native.Mathlib.Omega.{arith}
 use lib.ListN.{length-set}
 use Rattle.rules.specs.Lines.{ascii}
-use Rattle.rules.specs.Sheet.{vName}
-use Rattle.lines.specs.Taken.{good-read, bad-read}
-use Rattle.checksheet.proofs.PlaceLines.{PlaceGood, place-most, place-bad, place-put}
+use Rattle.rules.specs.Sheet.{v_name}
+use Rattle.lines.specs.Taken.{good_read, bad_read}
+use Rattle.checksheet.proofs.PlaceLines.{PlaceGood, place_most, place_bad, place_put}
 use borrow.Author.Rules.{rules}
 use Rattle.checksheet.proofs.places.place_line.Statement.{statement}
 use Rattle.checksheet.proofs.places.place_line.Tie as tie
 
 -- the line is good
-good-line : (c : tie.Then1) → let s = c.before.before.before.before.before.before in
+good_line : (c : tie.Then1) → let s = c.before.before.before.before.before.before in
     PlaceGood s.args.text.now s.args.p.at c.before.read-line.result
-unfolding vName ascii
-good-line c = good-read _ _ _ _ _ c.before.read-line.ensures c.if1.true
+unfolding v_name ascii
+good_line c = good_read _ _ _ _ _ c.before.read-line.ensures c.if1.true
 
 slice-aggregate-read-line : tie.Need-slice-aggregate-read-line
 slice-aggregate-read-line c = search rules
@@ -28,7 +28,7 @@ mul-k : tie.Need-overflow-mul-k
 mul-k c = search rules
 
 cast-vertices : tie.Need-overflow-cast-vertices
-cast-vertices c = record { fits = omega (arith, place-most (good-line c.before)) }
+cast-vertices c = record { fits = omega (arith, place_most (good_line c.before)) }
 
 mul-vertices : tie.Need-overflow-mul-vertices
 mul-vertices c = search rules
@@ -37,7 +37,7 @@ slice-write-vertices : tie.Need-slice-write-vertices
 slice-write-vertices c = search rules
 
 cast-vertices-2 : tie.Need-overflow-cast-vertices-2
-cast-vertices-2 c = record { fits = omega (arith, place-most (good-line c.before.before)) }
+cast-vertices-2 c = record { fits = omega (arith, place_most (good_line c.before.before)) }
 
 add-vertices : tie.Need-overflow-add-vertices
 add-vertices c = search rules
@@ -49,7 +49,7 @@ slice-write-vertices-2 : tie.Need-slice-write-vertices-2
 slice-write-vertices-2 c = simp length-set (omega (arith, c.before.before.before.before.before.before.before.before.requires.room))
 
 cast-vertices-3 : tie.Need-overflow-cast-vertices-3
-cast-vertices-3 c = record { fits = omega (arith, place-most (good-line c.before.before.before)) }
+cast-vertices-3 c = record { fits = omega (arith, place_most (good_line c.before.before.before)) }
 
 add-vertices-2 : tie.Need-overflow-add-vertices-2
 add-vertices-2 c = search rules
@@ -67,17 +67,17 @@ same_length : tie.Need-same-length
 same_length c = search rules
 
 returns : tie.Need-returns
-returns c = place-put c.before.before.before.before.before.before.before.before.before.before.requires (good-line c.before.before.before.before)
+returns c = place_put c.before.before.before.before.before.before.before.before.before.before.requires (good_line c.before.before.before.before)
 
 stopped-requires : tie.Need-stopped-requires
 stopped-requires c κs = search rules
 
 returns-2 : tie.Need-returns-2
-unfolding vName ascii
+unfolding v_name ascii
 returns-2 c =
     let at-read-line = c.before.before in
     let s = at-read-line.before.before.before.before.before in
-    place-bad s.requires (bad-read _ _ _ _ _ at-read-line.read-line.ensures c.before.if1.false) c.stopped.ensures
+    place_bad s.requires (bad_read _ _ _ _ _ at-read-line.read-line.ensures c.before.if1.false) c.stopped.ensures
 
 pub place-line-spec : {M : Type 1} → statement M
 place-line-spec =

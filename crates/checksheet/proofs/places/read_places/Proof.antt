@@ -1,7 +1,7 @@
 -- `checksheet::places::read_places` meets its contract. The loop's invariant is `Placing`: what is left from the place now comes to what the whole comes to.
 -- Assumes nothing.
 use Prim.Native.Nat.{◌-◌}
-use Rattle.checksheet.proofs.PlaceLines.{Placing, placing-begin, placing-ready, placing-next, placing-stop, placing-end}
+use Rattle.checksheet.proofs.PlaceLines.{Placing, placing_begin, placing_ready, placing_next, placing_stop, placing_end}
 use borrow.Author.Rules.{rules}
 use Rattle.checksheet.proofs.places.read_places.Statement.{statement}
 use Rattle.checksheet.proofs.places.read_places.Tie as tie
@@ -13,10 +13,10 @@ abbrev decreases-loop : tie.decreases-loop
 decreases-loop text from k vertices₀ p₀ i₀ vertices p i = k - i
 
 loop-holds : tie.Need-loop-init invariant-loop decreases-loop
-loop-holds c = placing-begin c.before.before.requires
+loop-holds c = placing_begin c.before.before.requires
 
 place-line-requires : tie.Need-place-line-requires invariant-loop decreases-loop
-place-line-requires c κs = placing-ready c.before.before.loop.invariant c.before.loop-test.true
+place-line-requires c κs = placing_ready c.before.before.loop.invariant c.before.loop-test.true
 
 add-i : tie.Need-overflow-add-i invariant-loop decreases-loop
 add-i c = search rules
@@ -29,7 +29,7 @@ loop-again c =
     let at-place-line = c.before.before.before in
     let at-loop-test = at-place-line.before.before in
     let at_turn = at-loop-test.before in
-    placing-next at_turn.loop.invariant at-loop-test.loop-test.true at-place-line.place-line.ensures c.if1.true
+    placing_next at_turn.loop.invariant at-loop-test.loop-test.true at-place-line.place-line.ensures c.if1.true
 
 same_length : tie.Need-same-length invariant-loop decreases-loop
 same_length c = search rules
@@ -39,13 +39,13 @@ returns c =
     let at-place-line = c.before.before.before in
     let at-loop-test = at-place-line.before.before in
     let at_turn = at-loop-test.before in
-    placing-stop at_turn.loop.invariant at-loop-test.loop-test.true at-place-line.place-line.ensures c.if1.false
+    placing_stop at_turn.loop.invariant at-loop-test.loop-test.true at-place-line.place-line.ensures c.if1.false
 
 same-length-2 : tie.Need-same-length-2 invariant-loop decreases-loop
 same-length-2 c = search rules
 
 returns-2 : tie.Need-returns-2 invariant-loop decreases-loop
-returns-2 c = placing-end c.before.loop.invariant c.loop-test.false
+returns-2 c = placing_end c.before.loop.invariant c.loop-test.false
 
 pub read-places-spec : {M : Type 1} → statement M
 read-places-spec =

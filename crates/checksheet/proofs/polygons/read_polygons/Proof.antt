@@ -1,7 +1,7 @@
 -- `checksheet::polygons::read_polygons` meets its contract. The loop's invariant is `Going`: what is left from the place now comes to what the whole comes to.
 -- Assumes nothing.
 use Prim.Native.Nat.{◌-◌}
-use Rattle.checksheet.proofs.PolygonLines.{Going, going-begin, going-ready, going_next, going-stop, going_end}
+use Rattle.checksheet.proofs.PolygonLines.{Going, going_begin, going_ready, going_next, going_stop, going_end}
 use borrow.Author.Rules.{rules}
 use Rattle.checksheet.proofs.polygons.read_polygons.Statement.{statement}
 use Rattle.checksheet.proofs.polygons.read_polygons.Tie as tie
@@ -13,10 +13,10 @@ abbrev decreases-loop : tie.decreases-loop
 decreases-loop text words n polygons₀ links₀ p₀ i₀ polygons links p i = n - i
 
 loop-holds : tie.Need-loop-init invariant-loop decreases-loop
-loop-holds c = going-begin c.before.before.before.requires
+loop-holds c = going_begin c.before.before.before.requires
 
 polygon-lines-requires : tie.Need-polygon-lines-requires invariant-loop decreases-loop
-polygon-lines-requires c κs = going-ready c.before.before.before.loop.invariant c.before.before.loop-test.true
+polygon-lines-requires c κs = going_ready c.before.before.before.loop.invariant c.before.before.loop-test.true
 
 add-i : tie.Need-overflow-add-i invariant-loop decreases-loop
 add-i c = search rules
@@ -42,7 +42,7 @@ returns c =
     let at-polygon-lines = c.before.before.before.before.before in
     let at-loop-test = at-polygon-lines.before.before.before in
     let at_turn = at-loop-test.before in
-    going-stop at_turn.loop.invariant at-loop-test.loop-test.true at-polygon-lines.polygon-lines.ensures c.if1.false
+    going_stop at_turn.loop.invariant at-loop-test.loop-test.true at-polygon-lines.polygon-lines.ensures c.if1.false
 
 same-length-3 : tie.Need-same-length-3 invariant-loop decreases-loop
 same-length-3 c = search rules

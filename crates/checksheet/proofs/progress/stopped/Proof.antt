@@ -1,11 +1,11 @@
 -- `checksheet::progress::stopped` meets its contract: every other field is kept. Assumes nothing.
 use mathlib.Core.Path.{refl}
-use Rattle.checksheet.specs.Reading.{stoppedAt}
+use Rattle.checksheet.specs.Reading.{stopped_at}
 use Rattle.checksheet.proofs.progress.stopped.Statement.{statement}
 use Rattle.checksheet.proofs.progress.stopped.Tie as tie
 
 returns : tie.Need-returns
-unfolding stoppedAt
+unfolding stopped_at
 returns c = refl
 
 pub stopped-spec : {M : Type 1} → statement M

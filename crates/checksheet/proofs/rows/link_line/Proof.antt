@@ -5,9 +5,9 @@ use native.Mathlib.Omega.{arith}
 use lib.ListN.{length, replicate}
 use lib.Seq.{length-take-le}
 use Rattle.mem.specs.Slice.{view}
-use Rattle.rules.specs.Lines.{ascii, tabByte, parts}
-use Rattle.rules.specs.Sheet.{nName}
-use Rattle.checksheet.proofs.RowLines.{LinksGood, links-good, links-none, links-ready, links-open, links-missed, links-put}
+use Rattle.rules.specs.Lines.{ascii, tab_byte, parts}
+use Rattle.rules.specs.Sheet.{n_name}
+use Rattle.checksheet.proofs.RowLines.{LinksGood, links_good, links_none, links_ready, links_open, links_missed, links_put}
 use borrow.Author.Rules.{rules}
 use Rattle.checksheet.proofs.rows.link_line.Statement.{statement}
 use Rattle.checksheet.proofs.rows.link_line.Tie as tie
@@ -17,16 +17,16 @@ few : (s : tie.Start) → s.args.n ≤ 12
 few s = omega (arith, s.requires.corners, s.requires.few)
 
 -- the line is good
-good-line : (c : tie.Then2) → let at_row = c.before.before in
+good_line : (c : tie.Then2) → let at_row = c.before.before in
     let at-find = at_row.before.before.before.before.before.before in
     let s = at-find.before.before.before in
-    LinksGood s.args.n (parts tabByte (view s.args.text.now s.args.p.at (at-find.find.result - s.args.p.at)))
+    LinksGood s.args.n (parts tab_byte (view s.args.text.now s.args.p.at (at-find.find.result - s.args.p.at)))
     at_row.read-row.new.1.1.1.1.0
-unfolding nName ascii
-good-line c =
+unfolding n_name ascii
+good_line c =
     let at-read-row = c.before.before in
     let s = at-read-row.before.before.before.before.before.before.before.before.before in
-    links-good s.args.n _ (few s) at-read-row.read-row.ensures c.if2.true
+    links_good s.args.n _ (few s) at-read-row.read-row.ensures c.if2.true
 
 find-requires : tie.Need-find-requires
 find-requires c κs = search rules
@@ -35,7 +35,7 @@ stopped-requires : tie.Need-stopped-requires
 stopped-requires c κs = search rules
 
 returns : tie.Need-returns
-returns c = links-open c.before.before.before.before.before.requires c.before.before.find.ensures.0 c.before.if1.true c.stopped.ensures
+returns c = links_open c.before.before.before.before.before.requires c.before.before.find.ensures.0 c.before.if1.true c.stopped.ensures
 
 sub-read-row : tie.Need-overflow-sub-read-row
 sub-read-row c = search rules
@@ -71,13 +71,13 @@ array-share-prefix-values : tie.Need-array-share-prefix-values
 array-share-prefix-values c = search rules
 
 slice-aggregate-put-row32 : tie.Need-slice-aggregate-put-row32
-slice-aggregate-put-row32 c = let g = good-line c.before.before in sym (ap length g.first ∙ g.long)
+slice-aggregate-put-row32 c = let g = good_line c.before.before in sym (ap length g.first ∙ g.long)
 
 put-row32-requires : tie.Need-put-row32-requires
 put-row32-requires c κs =
     let at-good = c.before.before in
     let s = at-good.before.before.before.before.before.before.before.before.before.before.before in
-    links-ready s.args.i (good-line at-good) s.requires.corners s.requires.room
+    links_ready s.args.i (good_line at-good) s.requires.corners s.requires.room
 
 add-t30 : tie.Need-overflow-add-t30
 add-t30 c = search rules
@@ -95,20 +95,20 @@ returns-2 c =
     let at-if1 = at-good.before.before.before.before.before.before.before in
     let at-find = at-if1.before in
     let s = at-find.before.before.before in
-    links-put s.requires at-find.find.ensures.0 at-if1.if1.false (good-line at-good) at-put-row32.put-row32.ensures
+    links_put s.requires at-find.find.ensures.0 at-if1.if1.false (good_line at-good) at-put-row32.put-row32.ensures
 
 stopped-requires-2 : tie.Need-stopped-requires-2
 stopped-requires-2 c κs = search rules
 
 returns-3 : tie.Need-returns-3
-unfolding nName ascii
+unfolding n_name ascii
 returns-3 c =
     let at-read-row = c.before.before.before in
     let at-if1 = at-read-row.before.before.before.before.before in
     let at-find = at-if1.before in
     let s = at-find.before.before.before in
-    links-missed s.requires at-find.find.ensures.0 at-if1.if1.false
-    (links-none s.args.n _ (few s) at-read-row.read-row.ensures c.before.if2.false) c.stopped2.ensures
+    links_missed s.requires at-find.find.ensures.0 at-if1.if1.false
+    (links_none s.args.n _ (few s) at-read-row.read-row.ensures c.before.if2.false) c.stopped2.ensures
 
 pub link-line-spec : {M : Type 1} → statement M
 link-line-spec =

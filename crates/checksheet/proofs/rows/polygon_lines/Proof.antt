@@ -4,25 +4,25 @@ use Prim.Native.Nat.{◌+◌, ◌-◌, ◌≤◌}
 use native.Mathlib.Omega.{arith}
 use lib.ListN.{replicate}
 use Rattle.mem.specs.Slice.{view}
-use Rattle.rules.specs.Lines.{tabByte, parts}
+use Rattle.rules.specs.Lines.{tab_byte, parts}
 use Rattle.checksheet.specs.Reading.{CornersAre}
-use Rattle.checksheet.proofs.RowLines.{corners-ready}
-use Rattle.checksheet.proofs.PolygonLines.{polygon-open, polygon-missed, links-asked, polygon-put}
+use Rattle.checksheet.proofs.RowLines.{corners_ready}
+use Rattle.checksheet.proofs.PolygonLines.{polygon_open, polygon_missed, links_asked, polygon_put}
 use borrow.Author.Rules.{rules}
 use Rattle.checksheet.proofs.rows.polygon_lines.Statement.{statement}
 use Rattle.checksheet.proofs.rows.polygon_lines.Tie as tie
 
 -- the line is good
-good-line : (c : tie.Then2) → let at-corners = c.before.before in
+good_line : (c : tie.Then2) → let at-corners = c.before.before in
     let at-find = at-corners.before.before.before.before in
     let s = at-find.before.before.before.before in
-    CornersAre s.args.words (parts tabByte (view s.args.text.now s.args.p.at (at-find.find.result - s.args.p.at)))
+    CornersAre s.args.words (parts tab_byte (view s.args.text.now s.args.p.at (at-find.find.result - s.args.p.at)))
     at-corners.corner-cells.result.count (replicate 14 0) at-corners.corner-cells.new.1.1.0
-good-line c = c.before.before.corner-cells.ensures.found c.if2.true
+good_line c = c.before.before.corner-cells.ensures.found c.if2.true
 
 -- it has at most 12 corners
 few : (c : tie.Then2) → c.before.before.corner-cells.result.count ≤ 12
-few c = omega (arith, (good-line c).few, c.before.before.before.before.before.before.before.before.before.before.requires.few)
+few c = omega (arith, (good_line c).few, c.before.before.before.before.before.before.before.before.before.before.requires.few)
 
 find-requires : tie.Need-find-requires
 find-requires c κs = search rules
@@ -34,7 +34,7 @@ returns : tie.Need-returns
 returns c =
     let at-find = c.before.before in
     let s = at-find.before.before.before.before in
-    polygon-open s.requires at-find.find.ensures.0 c.before.if1.true c.stopped.ensures
+    polygon_open s.requires at-find.find.ensures.0 c.before.if1.true c.stopped.ensures
 
 sub-corner-cells : tie.Need-overflow-sub-corner-cells
 sub-corner-cells c = search rules
@@ -70,7 +70,7 @@ put-row16-requires : tie.Need-put-row16-requires
 put-row16-requires c κs =
     let s = c.before.before.before.before.before.before.before.before.before.before.before.before.before in
     let n = c.before.before.before.before.before.corner-cells.result.count in
-    corners-ready (good-line c.before.before.before) refl s.requires.few s.args.i (n + 2 - 2) (omega arith) (omega arith) s.requires.room
+    corners_ready (good_line c.before.before.before) refl s.requires.few s.args.i (n + 2 - 2) (omega arith) (omega arith) s.requires.room
 
 add-t30 : tie.Need-overflow-add-t30
 add-t30 c = search rules
@@ -84,7 +84,7 @@ link-line-requires c κs =
     let at-if1 = at-good.before.before.before.before.before in
     let at-find = at-if1.before in
     let s = at-find.before.before.before.before in
-    links-asked s.requires at-find.find.ensures.0 at-if1.if1.false (good-line at-good).few
+    links_asked s.requires at-find.find.ensures.0 at-if1.if1.false (good_line at-good).few
 
 same_length : tie.Need-same-length
 same_length c = search rules
@@ -102,7 +102,7 @@ returns-2 c =
     let at-find = at-if1.before in
     let s = at-find.before.before.before.before in
     let n = at-corner-cells.corner-cells.result.count in
-    polygon-put s.requires at-find.find.ensures.0 at-if1.if1.false (good-line at-good) refl (n + 2 - 2) (omega arith) at-put-row16.put-row16.ensures
+    polygon_put s.requires at-find.find.ensures.0 at-if1.if1.false (good_line at-good) refl (n + 2 - 2) (omega arith) at-put-row16.put-row16.ensures
     at-link-line.link-line.ensures
 
 stopped-requires-2 : tie.Need-stopped-requires-2
@@ -114,7 +114,7 @@ returns-3 c =
     let at-if1 = at-corner-cells.before.before.before in
     let at-find = at-if1.before in
     let s = at-find.before.before.before.before in
-    polygon-missed s.requires at-find.find.ensures.0 at-if1.if1.false (at-corner-cells.corner-cells.ensures.none c.before.if2.false)
+    polygon_missed s.requires at-find.find.ensures.0 at-if1.if1.false (at-corner-cells.corner-cells.ensures.none c.before.if2.false)
     c.stopped2.ensures
 
 pub polygon-lines-spec : {M : Type 1} → statement M

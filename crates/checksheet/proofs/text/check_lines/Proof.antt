@@ -6,11 +6,11 @@ use lib.Seq.{length-take-le}
 use mir.Syntax.{w64}
 use mir.Val.{SFits}
 use mir.Facts.{to_z-of_z}
-use Rattle.lines.specs.Printing.{printed-as}
-use Rattle.sheet.specs.Room.{refused-room}
+use Rattle.lines.specs.Printing.{printed_as}
+use Rattle.sheet.specs.Room.{refused_room}
 use Rattle.checksheet.specs.Claims.{ClaimedAs}
-use Rattle.checksheet.proofs.MeshesRead.{words-few, rows_fit}
-use Rattle.checksheet.proofs.Verdicts.{unread-text, claimed, claimed-text}
+use Rattle.checksheet.proofs.MeshesRead.{words_few, rows_fit}
+use Rattle.checksheet.proofs.Verdicts.{unread_text, claimed, claimed_text}
 use borrow.Author.Rules.{rules}
 use Rattle.checksheet.proofs.text.check_lines.Statement.{statement}
 use Rattle.checksheet.proofs.text.check_lines.Tie as tie
@@ -33,7 +33,7 @@ rows : (c : tie.After-row-words) → c.before.before.k.given.0.1.0 * c.row_words
 rows c =
     let at-k = c.before.before in
     let s = at-k.before.before.before.before.before.before.before.before.before.before.before in
-    rows_fit at-k.k.given.0.1.0 (read at-k).polygons (omega (arith, words-few s.args.x.nvp, c.row_words.ensures))
+    rows_fit at-k.k.given.0.1.0 (read at-k).polygons (omega (arith, words_few s.args.x.nvp, c.row_words.ensures))
 
 slice-aggregate-read-mesh : tie.Need-slice-aggregate-read-mesh
 slice-aggregate-read-mesh c = search rules
@@ -54,7 +54,7 @@ put-refused-requires : tie.Need-put-refused-requires
 put-refused-requires c κs =
     let at-line = c.before.before in
     let s = at-line.before.before.before.before.before.before.before.before.before.before.before in
-    omega (arith, refused-room 22 at-line.line.given.0.0, s.requires.room)
+    omega (arith, refused_room 22 at-line.line.given.0.0, s.requires.room)
 
 enum-known-k : tie.Need-enum-known-k
 enum-known-k c = search rules
@@ -116,7 +116,7 @@ returns c =
     let at-line = at-put-refused.before.before.before in
     let r = at-line.before.before.before.before.before in
     let s = r.before.before.before.before.before.before in
-    printed-as at-put-refused.Put-refused.ensures (unread-text s.args.text.now s.args.x r.read-mesh.ensures at-line.line.given.1)
+    printed_as at-put-refused.Put-refused.ensures (unread_text s.args.text.now s.args.x r.read-mesh.ensures at-line.line.given.1)
 
 same-length-2 : tie.Need-same-length-2
 same-length-2 c = search rules
@@ -129,8 +129,8 @@ returns-2 c =
     let x = at_told.before in
     let r = x.before.before.before.before.before in
     let s = r.before.before.before.before.before.before in
-    printed-as at-put-answer.put-answer.ensures
-    (claimed-text s.args.text.now s.args.x r.read-mesh.ensures x.k.given.1 (to_z-of_z (total-fits at_told))
+    printed_as at-put-answer.put-answer.ensures
+    (claimed_text s.args.text.now s.args.x r.read-mesh.ensures x.k.given.1 (to_z-of_z (total-fits at_told))
     (ap (λ w. x.k.given.0.1.0 * w) at-row-words.row_words.ensures))
 
 pub check-lines-spec : {M : Type 1} → statement M

@@ -3,9 +3,9 @@ use Prim.Native.Nat.{◌^◌, ◌<◌}
 use lib.ListN.{length}
 use mathlib.Core.Path.{◌∙◌}
 use native.Mathlib.Omega.{arith}
-use Rattle.holes.specs.Places.{was-done, was-stuck}
-use Rattle.contours.proofs.Adds.{contour-cut-ready, contour-weld-ready, contour-mesh-ready, polygons-fit}
-use Rattle.contours.proofs.Adds.{add-over, add-answer, stuck-words, stuck-answer}
+use Rattle.holes.specs.Places.{was_done, was_stuck}
+use Rattle.contours.proofs.Adds.{contour_cut_ready, contour_weld_ready, contour_mesh_ready, polygons_fit}
+use Rattle.contours.proofs.Adds.{add_over, add_answer, stuck_words, stuck_answer}
 use borrow.Author.Rules.{rules}
 use Rattle.contours.proofs.add.add_contour.Statement.{statement}
 use Rattle.contours.proofs.add.add_contour.Tie as tie
@@ -18,7 +18,7 @@ add-po : tie.Need-overflow-add-po
 add-po c = search rules
 
 cut-contour-requires : tie.Need-cut-contour-requires
-cut-contour-requires c κs = contour-cut-ready c.before.before.before.before.requires
+cut-contour-requires c κs = contour_cut_ready c.before.before.before.before.requires
 
 enum-known-k : tie.Need-enum-known-k
 enum-known-k c = search rules
@@ -26,8 +26,8 @@ enum-known-k c = search rules
 weld-contour-requires : tie.Need-weld-contour-requires
 weld-contour-requires c κs =
     let h = c.before.before.before.before.before.before.cut-contour in
-    let x = was-done _ _ (rw c.before.before.k.given.1 at h.ensures.0) in
-    contour-weld-ready c.before.before.before.before.before.before.before.before.before.before.before.requires h.ensures.1 x.ts x.is
+    let x = was_done _ _ (rw c.before.before.k.given.1 at h.ensures.0) in
+    contour_weld_ready c.before.before.before.before.before.before.before.before.before.before.before.requires h.ensures.1 x.ts x.is
 
 mul_at : tie.Need-overflow-mul-at
 mul_at c = search rules
@@ -44,8 +44,8 @@ add-to c = search rules
 mesh-contour-requires : tie.Need-mesh-contour-requires
 mesh-contour-requires c κs =
     let h = c.before.before.before.before.before.before.before.before.before.before.before.before.cut-contour in
-    let x = was-done _ _ (rw c.before.before.before.before.before.before.before.before.k.given.1 at h.ensures.0) in
-    contour-mesh-ready c.before.before.before.before.before.before.before.before.before.before.before.before.before.before.before.before.before.requires h.ensures.1 x.ts x.is c.before.before.before.before.before.weld-contour.ensures x.count
+    let x = was_done _ _ (rw c.before.before.before.before.before.before.before.before.k.given.1 at h.ensures.0) in
+    contour_mesh_ready c.before.before.before.before.before.before.before.before.before.before.before.before.before.before.before.before.before.requires h.ensures.1 x.ts x.is c.before.before.before.before.before.weld-contour.ensures x.count
 
 fill-requires : tie.Need-fill-requires
 fill-requires c κs = omega (arith, c.before.before.before.mesh-contour.auto.0, c.before.before.before.before.before.before.before.before.before.weld-contour.auto.0, c.before.before.before.before.before.before.before.before.before.before.before.before.before.before.before.before.cut-contour.auto.0, c.before.before.before.before.before.before.before.before.before.before.before.before.before.before.before.before.before.before.before.before.before.requires.vertices, c.before.before.before.before.before.before.before.before.before.before.before.before.before.before.before.before.before.before.before.before.before.requires.stands.fits.scratch)
@@ -65,8 +65,8 @@ add-t21 c =
     let y = m.before.before.before.before.before.before in
     let k = y.before.before.before in
     let h = k.before.before.before.before in
-    let x = was-done _ _ (rw k.k.given.1 at h.cut-contour.ensures.0) in
-    let f = polygons-fit h.before.before.before.before.before.requires h.cut-contour.ensures.1 x.ts x.is y.weld-contour.ensures x.count m.mesh-contour.ensures.meshed in
+    let x = was_done _ _ (rw k.k.given.1 at h.cut-contour.ensures.0) in
+    let f = polygons_fit h.before.before.before.before.before.requires h.cut-contour.ensures.1 x.ts x.is y.weld-contour.ensures x.count m.mesh-contour.ensures.meshed in
     record { fits = omega (arith, short-enough h.before.before.before.before, f) }
 
 same_length : tie.Need-same-length
@@ -79,10 +79,10 @@ returns c =
     let k = y.before.before.before in
     let h = k.before.before.before.before in
     let s = h.before.before.before.before.before in
-    let x = was-done _ _ (rw k.k.given.1 at h.cut-contour.ensures.0) in
+    let x = was_done _ _ (rw k.k.given.1 at h.cut-contour.ensures.0) in
     let e = m.mesh-contour.ensures in (
-      add-answer s.requires h.cut-contour.ensures.1 x.ts x.is y.weld-contour.ensures x.count e.meshed,
-      add-over s.requires h.cut-contour.ensures.1 x.ts x.is y.weld-contour.ensures x.count e.meshed e.is
+      add_answer s.requires h.cut-contour.ensures.1 x.ts x.is y.weld-contour.ensures x.count e.meshed,
+      add_over s.requires h.cut-contour.ensures.1 x.ts x.is y.weld-contour.ensures x.count e.meshed e.is
           c.before.before.before.before.before.before.before.fill.ensures c.before.before.fill2.ensures,
     )
 
@@ -105,8 +105,8 @@ returns-2 : tie.Need-returns-2
 returns-2 c =
     let s = c.before.before.before.before.before.before.before.before.before.before.before.before.before.before.before in
     let h = c.before.before.before.before.before.before.before.before.before.before.cut-contour in
-    let d = was-stuck _ _ (rw c.before.before.before.before.before.before.k2.given.1 at h.ensures.0) in
-    (stuck-answer s.requires h.ensures.1 d, stuck-words s.requires h.ensures.1 d c.before.before.fill3.ensures)
+    let d = was_stuck _ _ (rw c.before.before.before.before.before.before.k2.given.1 at h.ensures.0) in
+    (stuck_answer s.requires h.ensures.1 d, stuck_words s.requires h.ensures.1 d c.before.before.fill3.ensures)
 
 pub add-contour-spec : {M : Type 1} → statement M
 add-contour-spec =

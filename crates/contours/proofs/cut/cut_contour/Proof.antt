@@ -4,10 +4,10 @@ use mathlib.Core.Path.{◌≡◌, ap, ◌∙◌}
 use native.Mathlib.Omega.{arith}
 use Prim.Native.Nat.{ℕ, ◌+◌, ◌-◌, ◌*◌}
 use lib.ListN.{length}
-use Rattle.mem.specs.Slice.{view, lent-part}
+use Rattle.mem.specs.Slice.{view, lent_part}
 use Rattle.rules.specs.Ears.{triangulate}
 use Rattle.ears.specs.Part.{answer_of, points_of, cut_in}
-use Rattle.contours.proofs.Cuts.{cut-laid, cut-places, cut-words}
+use Rattle.contours.proofs.Cuts.{cut_laid, cut_places, cut_words_lem}
 use borrow.Author.Rules.{rules}
 use Rattle.contours.proofs.cut.cut_contour.Statement.{statement}
 use Rattle.contours.proofs.cut.cut_contour.Tie as tie
@@ -40,7 +40,7 @@ triangulate-requires : tie.Need-triangulate-requires
 triangulate-requires c κs =
     let s = c.before.before.before.before.before.before.before in
     let e : s.args.po + (s.args.n * 6 - 6) - s.args.po ≡ s.args.n * 6 - 6 = omega arith in
-    rw e (cut-laid s.requires c.before.before.before.lay-contour.ensures)
+    rw e (cut_laid s.requires c.before.before.before.lay-contour.ensures)
 
 same_length : tie.Need-same-length
 same_length c = search rules
@@ -53,10 +53,10 @@ returns c =
     let x = c.before.before.before.before.before.before.lay-contour.new.0 in
     let e : po + (n * 6 - 6) - po ≡ n * 6 - 6 = omega arith in
     let l : length x ≡ length s.args.work.now = c.before.before.before.before.before.before.lay-contour.auto.0 in
-    let p = cut-places s.requires c.before.before.before.before.before.before.lay-contour.ensures in (
+    let p = cut_places s.requires c.before.before.before.before.before.before.lay-contour.ensures in (
       c.before.before.triangulate.ensures.0 ∙ ap (λ (k : ℕ). answer_of (triangulate (points_of n (view x po k)))) e ∙ rw p,
-      cut-words s.requires c.before.before.before.before.before.before.lay-contour.ensures
-          (lent-part (λ (t : List ℕ). cut_in n t (triangulate (points_of n t))) x c.before.before.triangulate.new.0 po (n * 6 - 6) _ e c.before.before.triangulate.ensures.1 c.before.before.triangulate.auto.0
+      cut_words_lem s.requires c.before.before.before.before.before.before.lay-contour.ensures
+          (lent_part (λ (t : List ℕ). cut_in n t (triangulate (points_of n t))) x c.before.before.triangulate.new.0 po (n * 6 - 6) _ e c.before.before.triangulate.ensures.1 c.before.before.triangulate.auto.0
           (omega (arith, s.requires.room))),
     )
 

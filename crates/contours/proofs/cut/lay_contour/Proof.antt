@@ -3,7 +3,7 @@ use lib.ListN.{length-set}
 use native.Mathlib.Omega.{arith}
 use Prim.Native.Nat.{◌-◌}
 use Rattle.mem.specs.Packed.{laid_none}
-use Rattle.contours.proofs.Cuts.{Laying, lay-more, lay-all}
+use Rattle.contours.proofs.Cuts.{Laying, lay_more, lay_all}
 use borrow.Author.Rules.{rules}
 use Rattle.contours.proofs.cut.lay_contour.Statement.{statement}
 use Rattle.contours.proofs.cut.lay_contour.Tie as tie
@@ -63,13 +63,13 @@ loop-less : tie.Need-loop-smaller invariant-loop decreases-loop
 loop-less c = search rules
 
 loop-again : tie.Need-loop-preserved invariant-loop decreases-loop
-loop-again c = lay-more c.before.before.before.before.before.before.before.requires c.before.before.before.before.loop.invariant c.before.before.before.loop-test.true c.before.before.IsPlace-in.ensures
+loop-again c = lay_more c.before.before.before.before.before.before.before.requires c.before.before.before.before.loop.invariant c.before.before.before.loop-test.true c.before.before.IsPlace-in.ensures
 
 same_length : tie.Need-same-length invariant-loop decreases-loop
 same_length c = search rules
 
 returns : tie.Need-returns invariant-loop decreases-loop
-returns c = lay-all c.before.before.before.before.requires c.before.loop.invariant c.loop-test.false
+returns c = lay_all c.before.before.before.before.requires c.before.loop.invariant c.loop-test.false
 
 pub lay-contour-spec : {M : Type 1} → statement M
 lay-contour-spec =

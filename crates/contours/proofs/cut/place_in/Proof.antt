@@ -1,5 +1,5 @@
 -- `contours::cut::place_in` meets its contract: the two numbers that it reads are the vertex's x and z. Assumes nothing.
-use Rattle.rules.specs.Job.{vertexAt}
+use Rattle.rules.specs.Job.{vertex_at}
 use mathlib.Core.Path.{refl}
 use borrow.Author.Rules.{rules}
 use Rattle.contours.proofs.cut.place_in.Statement.{statement}
@@ -24,7 +24,7 @@ shared-slice-read-t10 : tie.Need-shared-slice-read-t10
 shared-slice-read-t10 c = search rules
 
 returns : tie.Need-returns
-unfolding vertexAt
+unfolding vertex_at
 returns c = refl
 
 pub place-in-spec : {M : Type 1} → statement M

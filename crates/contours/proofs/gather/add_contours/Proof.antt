@@ -5,7 +5,7 @@ use Prim.Native.Nat.{◌-◌}
 use lib.ListN.{length}
 use native.Mathlib.Omega.{arith}
 use Rattle.checks.specs.Answers.{job_of}
-use Rattle.contours.proofs.Gathers.{Going, few-contours, going-begin, going-lists, going-ready, going-first, going_more, going-stuck, going_end}
+use Rattle.contours.proofs.Gathers.{Going, few_contours, going_begin, going_lists, going_ready, going_first, going_more, going_stuck, going_end}
 use borrow.Author.Rules.{rules}
 use Rattle.contours.proofs.gather.add_contours.Statement.{statement}
 use Rattle.contours.proofs.gather.add_contours.Tie as tie
@@ -21,13 +21,13 @@ short-enough : (k : tie.After-shared-slice-known4 invariant-loop decreases-loop)
 short-enough k = omega arith
 
 loop-holds : tie.Need-loop-init invariant-loop decreases-loop
-loop-holds c = going-begin c.before.before.before.before.before.requires
+loop-holds c = going_begin c.before.before.before.before.before.requires
 
 contour-at-requires : tie.Need-contour-at-requires invariant-loop decreases-loop
-contour-at-requires c κs = going-lists c.before.before.before.before.before.before.before.requires c.before.loop.invariant c.loop-test.true
+contour-at-requires c κs = going_lists c.before.before.before.before.before.before.before.requires c.before.loop.invariant c.loop-test.true
 
 add-next-requires : tie.Need-add-next-requires invariant-loop decreases-loop
-add-next-requires c κs = going-ready c.before.before.before.before.before.before.before.before.before.requires c.before.before.before.loop.invariant c.before.before.loop-test.true c.before.contour-at.ensures
+add-next-requires c κs = going_ready c.before.before.before.before.before.before.before.before.before.requires c.before.before.before.loop.invariant c.before.before.loop-test.true c.before.contour-at.ensures
 
 enum-known-v : tie.Need-enum-known-v invariant-loop decreases-loop
 enum-known-v c = search rules
@@ -43,14 +43,14 @@ same_length c = c.before.before.fill.auto.0 ∙ c.before.before.before.before.be
 
 returns : tie.Need-returns invariant-loop decreases-loop
 returns c =
-    going-stuck c.before.before.before.before.before.before.before.before.before.before.before.before.before.before.before.before.before.before.before.requires c.before.before.before.before.before.before.before.before.before.before.before.before.before.loop.invariant c.before.before.before.before.before.before.before.before.before.before.before.before.loop-test.true c.before.before.before.before.before.before.before.before.before.before.before.contour-at.ensures (rw c.before.before.before.before.before.cut.given.1 at c.before.before.before.before.before.before.before.before.before.add-next.ensures.0) c.before.before.before.before.before.before.before.before.before.add-next.ensures.1 c.before.before.fill.ensures
+    going_stuck c.before.before.before.before.before.before.before.before.before.before.before.before.before.before.before.before.before.before.before.requires c.before.before.before.before.before.before.before.before.before.before.before.before.before.loop.invariant c.before.before.before.before.before.before.before.before.before.before.before.before.loop-test.true c.before.before.before.before.before.before.before.before.before.before.before.contour-at.ensures (rw c.before.before.before.before.before.cut.given.1 at c.before.before.before.before.before.before.before.before.before.add-next.ensures.0) c.before.before.before.before.before.before.before.before.before.add-next.ensures.1 c.before.before.fill.ensures
 
 add-first : tie.Need-overflow-add-first invariant-loop decreases-loop
 add-first c =
-    record { fits = omega (arith, short-enough c.before.before.before.before.before.before.before.before.before.before.before, going-first c.before.before.before.before.before.before.before.before.before.before.before.before.before.before.before.before.requires c.before.before.before.before.before.before.before.before.before.before.loop.invariant c.before.before.before.before.before.before.before.before.before.loop-test.true c.before.before.before.before.before.before.before.before.contour-at.ensures) }
+    record { fits = omega (arith, short-enough c.before.before.before.before.before.before.before.before.before.before.before, going_first c.before.before.before.before.before.before.before.before.before.before.before.before.before.before.before.before.requires c.before.before.before.before.before.before.before.before.before.before.loop.invariant c.before.before.before.before.before.before.before.before.before.loop-test.true c.before.before.before.before.before.before.before.before.contour-at.ensures) }
 
 add-c : tie.Need-overflow-add-c invariant-loop decreases-loop
-add-c c = record { fits = omega (arith, c.before.before.before.before.before.before.before.before.before.loop-test.true, few-contours c.before.before.before.before.before.before.before.before.before.before.before.before.before.before.before.before.requires) }
+add-c c = record { fits = omega (arith, c.before.before.before.before.before.before.before.before.before.loop-test.true, few_contours c.before.before.before.before.before.before.before.before.before.before.before.before.before.before.before.before.requires) }
 
 loop-less : tie.Need-loop-smaller invariant-loop decreases-loop
 loop-less c = search rules

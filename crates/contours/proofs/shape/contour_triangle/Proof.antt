@@ -1,5 +1,5 @@
 -- `contours::shape::contour_triangle` meets its contract: its corners are the numbers of the three vertices. Assumes nothing.
-use Rattle.contours.proofs.Shapes.{triangle-made}
+use Rattle.contours.proofs.Shapes.{triangle_made}
 use borrow.Author.Rules.{rules}
 use Rattle.contours.proofs.shape.contour_triangle.Statement.{statement}
 use Rattle.contours.proofs.shape.contour_triangle.Tie as tie
@@ -32,7 +32,7 @@ shared-slice-read-t20 : tie.Need-shared-slice-read-t20
 shared-slice-read-t20 c = search rules
 
 returns : tie.Need-returns
-returns c = let s = c.before.before.before in triangle-made s.args.work.now s.args.ko s.args.n s.args.i s.args.j s.args.k s.args.region s.args.code s.requires.1 s.requires.2 s.requires.3
+returns c = let s = c.before.before.before in triangle_made s.args.work.now s.args.ko s.args.n s.args.i s.args.j s.args.k s.args.region s.args.code s.requires.1 s.requires.2 s.requires.3
 
 pub contour-triangle-spec : {M : Type 1} → statement M
 contour-triangle-spec =

@@ -1,5 +1,5 @@
 -- `contours::shape::mesh_contour` meets its contract: the triangles are shaped and merged, and blank records become zeros. Assumes nothing.
-use Rattle.contours.proofs.Shapes.{mesh-ready, meshed-over}
+use Rattle.contours.proofs.Shapes.{mesh_ready, meshed_over}
 use borrow.Author.Rules.{rules}
 use Rattle.contours.proofs.shape.mesh_contour.Statement.{statement}
 use Rattle.contours.proofs.shape.mesh_contour.Tie as tie
@@ -8,7 +8,7 @@ shape-contour-requires : tie.Need-shape-contour-requires
 shape-contour-requires c κs = search rules
 
 merge-polys-requires : tie.Need-merge-polys-requires
-merge-polys-requires c κs = let s = c.before.before.before.before.before.before in mesh-ready s.requires s.args.c.region s.args.c.code c.before.before.before.shape-contour.ensures
+merge-polys-requires c κs = let s = c.before.before.before.before.before.before in mesh_ready s.requires s.args.c.region s.args.c.code c.before.before.before.shape-contour.ensures
 
 mul-fill : tie.Need-overflow-mul-fill
 mul-fill c = search rules
@@ -33,7 +33,7 @@ returns c =
     let m = c.before.before.before.before.before.before in
     let e = m.before.before.before.before in
     let s = e.before.before.before in
-    meshed-over s.requires s.args.c.region s.args.c.code e.shape-contour.ensures m.merge-polys.ensures c.before.before.fill.ensures
+    meshed_over s.requires s.args.c.region s.args.c.code e.shape-contour.ensures m.merge-polys.ensures c.before.before.fill.ensures
 
 pub mesh-contour-spec : {M : Type 1} → statement M
 mesh-contour-spec =

@@ -3,7 +3,7 @@ use native.Mathlib.Omega.{arith}
 use Prim.Native.Nat.{◌-◌}
 use mathlib.Core.Path.{refl}
 use Rattle.mem.specs.Packed.{laid_none}
-use Rattle.contours.proofs.Shapes.{Shaped, first-within, second-within, third-within, shape-more, shape-fits, shape-all}
+use Rattle.contours.proofs.Shapes.{Shaped, first_within, second_within, third_within, shape_more, shape_fits, shape_all}
 use borrow.Author.Rules.{rules}
 use Rattle.contours.proofs.shape.shape_contour.Statement.{statement}
 use Rattle.contours.proofs.shape.shape_contour.Tie as tie
@@ -31,7 +31,7 @@ slice-reshared-read-contour-triangle :
 slice-reshared-read-contour-triangle c = search rules
 
 cast-contour-triangle : tie.Need-overflow-cast-contour-triangle invariant-loop decreases-loop
-cast-contour-triangle c = record { fits = omega (arith, first-within c.before.before.before.before.requires c.before.before.before.before.args.region c.before.before.before.before.args.code c.before.before.loop.invariant c.before.loop-test.true, c.before.before.before.before.ranges.n.fits) }
+cast-contour-triangle c = record { fits = omega (arith, first_within c.before.before.before.before.requires c.before.before.before.before.args.region c.before.before.before.before.args.code c.before.before.loop.invariant c.before.loop-test.true, c.before.before.before.before.ranges.n.fits) }
 
 add-contour-triangle : tie.Need-overflow-add-contour-triangle invariant-loop decreases-loop
 add-contour-triangle c = search rules
@@ -44,7 +44,7 @@ slice-reshared-read-contour-triangle-2 :
 slice-reshared-read-contour-triangle-2 c = search rules
 
 cast-contour-triangle-2 : tie.Need-overflow-cast-contour-triangle-2 invariant-loop decreases-loop
-cast-contour-triangle-2 c = record { fits = omega (arith, second-within c.before.before.before.before.requires c.before.before.before.before.args.region c.before.before.before.before.args.code c.before.before.loop.invariant c.before.loop-test.true, c.before.before.before.before.ranges.n.fits) }
+cast-contour-triangle-2 c = record { fits = omega (arith, second_within c.before.before.before.before.requires c.before.before.before.before.args.region c.before.before.before.before.args.code c.before.before.loop.invariant c.before.loop-test.true, c.before.before.before.before.ranges.n.fits) }
 
 add-contour-triangle-2 : tie.Need-overflow-add-contour-triangle-2 invariant-loop decreases-loop
 add-contour-triangle-2 c = search rules
@@ -57,7 +57,7 @@ slice-reshared-read-contour-triangle-3 :
 slice-reshared-read-contour-triangle-3 c = search rules
 
 cast-contour-triangle-3 : tie.Need-overflow-cast-contour-triangle-3 invariant-loop decreases-loop
-cast-contour-triangle-3 c = record { fits = omega (arith, third-within c.before.before.before.before.requires c.before.before.before.before.args.region c.before.before.before.before.args.code c.before.before.loop.invariant c.before.loop-test.true, c.before.before.before.before.ranges.n.fits) }
+cast-contour-triangle-3 c = record { fits = omega (arith, third_within c.before.before.before.before.requires c.before.before.before.before.args.region c.before.before.before.before.args.code c.before.before.loop.invariant c.before.loop-test.true, c.before.before.before.before.ranges.n.fits) }
 
 contour-triangle-requires : tie.Need-contour-triangle-requires invariant-loop decreases-loop
 contour-triangle-requires c κs =
@@ -66,7 +66,7 @@ contour-triangle-requires c κs =
     let h = c.before.loop-test.true in
     let region = s.args.region in
     let code = s.args.code in
-    (shape-fits s.requires region code v, first-within s.requires region code v h, second-within s.requires region code v h, third-within s.requires region code v h)
+    (shape_fits s.requires region code v, first_within s.requires region code v h, second_within s.requires region code v h, third_within s.requires region code v h)
 
 mul-store-poly : tie.Need-overflow-mul-store-poly invariant-loop decreases-loop
 mul-store-poly c = search rules
@@ -84,13 +84,13 @@ loop-less : tie.Need-loop-smaller invariant-loop decreases-loop
 loop-less c = search rules
 
 loop-again : tie.Need-loop-preserved invariant-loop decreases-loop
-loop-again c = let s = c.before.before.before.before.before.before.before.before.before in shape-more s.requires s.args.region s.args.code c.before.before.before.before.before.before.before.loop.invariant c.before.before.before.before.before.before.loop-test.true refl refl refl c.before.before.before.before.contour-triangle.ensures c.before.before.store-poly.ensures
+loop-again c = let s = c.before.before.before.before.before.before.before.before.before in shape_more s.requires s.args.region s.args.code c.before.before.before.before.before.before.before.loop.invariant c.before.before.before.before.before.before.loop-test.true refl refl refl c.before.before.before.before.contour-triangle.ensures c.before.before.store-poly.ensures
 
 same_length : tie.Need-same-length invariant-loop decreases-loop
 same_length c = search rules
 
 returns : tie.Need-returns invariant-loop decreases-loop
-returns c = let s = c.before.before.before in shape-all s.requires s.args.region s.args.code c.before.loop.invariant c.loop-test.false
+returns c = let s = c.before.before.before in shape_all s.requires s.args.region s.args.code c.before.loop.invariant c.loop-test.false
 
 pub shape-contour-spec : {M : Type 1} → statement M
 shape-contour-spec =

@@ -5,7 +5,7 @@ use Prim.Native.Nat.{◌-◌}
 use native.Mathlib.Omega.{arith}
 use borrow.Author.Rules.{rules}
 use lib.ListN.{length}
-use Rattle.ears.proofs.Parts.{Closing, close-none, close_more, close-all}
+use Rattle.ears.proofs.Parts.{Closing, close_none, close_more, close_all}
 use Rattle.ears.proofs.cut.close_gap.Statement.{statement}
 use Rattle.ears.proofs.cut.close_gap.Tie as tie
 
@@ -19,7 +19,7 @@ sub-last : tie.Need-overflow-sub-last invariant-loop decreases-loop
 sub-last c = search rules
 
 loop-holds : tie.Need-loop-init invariant-loop decreases-loop
-loop-holds c = close-none c.requires
+loop-holds c = close_none c.requires
 
 add-ix : tie.Need-overflow-add-ix invariant-loop decreases-loop
 add-ix c = search rules
@@ -58,7 +58,7 @@ returns : tie.Need-returns invariant-loop decreases-loop
 returns c =
     let v = c.before.before.args.ix.now in
     let e : length v - 1 ≡ c.before.loop.i = omega (arith, c.before.loop.invariant.within) in
-    rw e (close-all c.before.loop.invariant (omega arith))
+    rw e (close_all c.before.loop.invariant (omega arith))
 
 pub close-gap-spec : {M : Type 1} → statement M
 close-gap-spec =

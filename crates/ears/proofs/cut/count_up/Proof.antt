@@ -7,7 +7,7 @@ use borrow.Author.Rules.{rules}
 use lib.ListN.{length}
 use Rattle.mem.specs.Tab.{Filled, filled_none, filled_more}
 use Rattle.rules.specs.Ears.{indices}
-use Rattle.mem.specs.Tab.{filled-whole}
+use Rattle.mem.specs.Tab.{filled_whole}
 use Rattle.ears.proofs.cut.count_up.Statement.{statement}
 use Rattle.ears.proofs.cut.count_up.Tie as tie
 
@@ -43,7 +43,7 @@ same_length c = search rules
 
 returns : tie.Need-returns invariant-loop decreases-loop
 unfolding indices
-returns c = filled-whole c.before.loop.invariant (omega arith)
+returns c = filled_whole c.before.loop.invariant (omega arith)
 
 pub count-up-spec : {M : Type 1} → statement M
 count-up-spec =

@@ -3,7 +3,7 @@
 use mathlib.Core.Path.{sym, ◌∙◌}
 use native.Mathlib.Omega.{arith}
 use borrow.Author.Rules.{rules}
-use Rattle.ears.proofs.Cuts.{Cuts, cuts-none, cuts-more, cuts-stuck, cuts-done}
+use Rattle.ears.proofs.Cuts.{Cuts, cuts_none, cuts_more, cuts_stuck, cuts_done}
 use Rattle.ears.proofs.cut.cut_all.Statement.{statement}
 use Rattle.ears.proofs.cut.cut_all.Tie as tie
 
@@ -14,7 +14,7 @@ abbrev decreases-loop : tie.decreases-loop
 decreases-loop w₀ a n m₀ count₀ w m count = m
 
 loop-holds : tie.Need-loop-init invariant-loop decreases-loop
-loop-holds c = cuts-none c.before.requires.0 c.before.requires.1
+loop-holds c = cuts_none c.before.requires.0 c.before.requires.1
 
 add-t : tie.Need-overflow-add-t invariant-loop decreases-loop
 add-t c = search rules
@@ -41,7 +41,7 @@ loop-again : tie.Need-loop-preserved invariant-loop decreases-loop
 loop-again c =
     let turn = c.before.before.before in
     let now = turn.before.before.before in
-    cuts-more now.loop.invariant now.before.before.requires.2 turn.before.before.loop-test.true
+    cuts_more now.loop.invariant now.before.before.requires.2 turn.before.before.loop-test.true
     (sym turn.cut-one.ensures.0 ∙ c.if1.true) turn.cut-one.ensures.1
 
 same_length : tie.Need-same-length invariant-loop decreases-loop
@@ -51,7 +51,7 @@ returns : tie.Need-returns invariant-loop decreases-loop
 returns c =
     let turn = c.before.before.before in
     let now = turn.before.before.before in
-    cuts-stuck now.loop.invariant now.before.before.requires.2 turn.before.before.loop-test.true
+    cuts_stuck now.loop.invariant now.before.before.requires.2 turn.before.before.loop-test.true
     (sym turn.cut-one.ensures.0 ∙ c.if1.false) turn.cut-one.ensures.1
 
 add-t-3 : tie.Need-overflow-add-t-3 invariant-loop decreases-loop
@@ -76,7 +76,7 @@ returns-2 : tie.Need-returns-2 invariant-loop decreases-loop
 returns-2 c =
     let last = c.before.before in
     let now = last.before.before.before in
-    cuts-done now.loop.invariant now.before.before.requires.2 (omega arith) last.put-triangle.ensures
+    cuts_done now.loop.invariant now.before.before.requires.2 (omega arith) last.put-triangle.ensures
 
 pub cut-all-spec : {M : Type 1} → statement M
 cut-all-spec =

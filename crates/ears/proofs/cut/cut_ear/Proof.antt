@@ -9,12 +9,12 @@ use borrow.Author.Rules.{rules}
 use borrow.Author.Tests.{lt-ltb, le-ltb}
 use lib.Dec.{ltb}
 use lib.ListN.{take, drop}
-use Rattle.mem.specs.Slice.{view, splice, length-view}
+use Rattle.mem.specs.Slice.{view, splice, length_view}
 use Rattle.rules.specs.Lists.{without}
-use Rattle.laws.specs.Ring.{next-below}
-use Rattle.laws.specs.Ring.{prev-below}
-use Rattle.ears.proofs.Parts.{gap-ready, ear-cut}
-use Rattle.mem.specs.Slice.{lent-part}
+use Rattle.laws.specs.Ring.{next_below}
+use Rattle.laws.specs.Ring.{prev_below}
+use Rattle.ears.proofs.Parts.{gap_ready, ear_cut}
+use Rattle.mem.specs.Slice.{lent_part}
 use Rattle.ears.proofs.cut.cut_ear.Statement.{statement}
 use Rattle.ears.proofs.cut.cut_ear.Tie as tie
 
@@ -39,7 +39,7 @@ closed : (c : tie.After-w)
     ≡ splice (buffer c) (from c) (without (view (buffer c) (from c) (count c)) (gap c) ++ (0 ∷ []))
 closed c =
     let e : from c + count c - from c ≡ count c = omega arith in
-    lent-part (λ l. without l (gap c) ++ (0 ∷ [])) (buffer c) c.before.close-gap.new.0 (from c) _ _ e
+    lent_part (λ l. without l (gap c) ++ (0 ∷ [])) (buffer c) c.before.close-gap.new.0 (from c) _ _ e
     c.before.close-gap.ensures c.before.close-gap.auto.0 c.before.before.before.before.before.requires.0.room
 
 -- the place after it
@@ -71,7 +71,7 @@ close-gap-requires : tie.Need-close-gap-requires
 close-gap-requires c κs =
     let s = c.before.before.before in
     let e : s.args.a + s.args.m - s.args.a ≡ s.args.m = omega arith in
-    rw (e, length-view _ _ _ s.requires.0.room, c.before.next.ensures) (next-below _ _ (omega arith))
+    rw (e, length_view _ _ _ s.requires.0.room, c.before.next.ensures) (next_below _ _ (omega arith))
 
 sub-n : tie.Need-overflow-sub-n
 sub-n c = search rules
@@ -84,8 +84,8 @@ remark-gap-requires c κs =
     let h = after-below c.before.before in
     let one = c.before.before.before.before.before.before.before in
     let s = one.before.before in (
-      gap-ready _ _ _ _ s.requires.0 s.requires.1 one.next.ensures (closed c.before.before.before.before),
-      rw c.prev.ensures (prev-below _ _ h),
+      gap_ready _ _ _ _ s.requires.0 s.requires.1 one.next.ensures (closed c.before.before.before.before),
+      rw c.prev.ensures (prev_below _ _ h),
       h,
     )
 
@@ -97,7 +97,7 @@ returns c =
     let two = c.before.before.before.before.before in
     let one = two.before.before.before.before.before in
     let s = one.before.before in
-    ear-cut _ _ _ _ s.requires.0 s.requires.1 one.next.ensures (closed two.before.before)
+    ear_cut _ _ _ _ s.requires.0 s.requires.1 one.next.ensures (closed two.before.before)
     (after-gap two) c.before.before.before.prev.ensures c.before.before.remark-gap.ensures
 
 pub cut-ear-spec : {M : Type 1} → statement M

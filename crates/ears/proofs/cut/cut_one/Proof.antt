@@ -3,7 +3,7 @@
 use mathlib.Core.Path.{sym, ap, ◌∙◌}
 use borrow.Author.Rules.{rules}
 use Rattle.rules.specs.declared.Ear.{Ear}
-use Rattle.ears.proofs.Cuts.{ear-place, turned, still, far-ready}
+use Rattle.ears.proofs.Cuts.{ear_place, turned, still, far_ready}
 use Rattle.ears.proofs.cut.cut_one.Statement.{statement}
 use Rattle.ears.proofs.cut.cut_one.Tie as tie
 
@@ -13,15 +13,15 @@ ear-in-requires c κs = search rules
 put-triangle-requires : tie.Need-put-triangle-requires
 put-triangle-requires c κs =
     let s = c.before.before.before.before.before in
-    (ear-place _ _ _ 0 s.requires.0 c.before.before.ear-in.ensures c.before.if1.true, s.requires.2, s.requires.3)
+    (ear_place _ _ _ 0 s.requires.0 c.before.before.ear-in.ensures c.before.if1.true, s.requires.2, s.requires.3)
 
 cut-ear-requires : tie.Need-cut-ear-requires
 cut-ear-requires c κs =
     let put = c.before.before.before in
     let ear = put.before.before.before in
     let s = ear.before.before.before in (
-      far-ready _ _ _ _ _ s.requires.0 s.requires.2 put.put-triangle.ensures,
-      ear-place _ _ _ 0 s.requires.0 ear.ear-in.ensures put.before.before.if1.true,
+      far_ready _ _ _ _ _ s.requires.0 s.requires.2 put.put-triangle.ensures,
+      ear_place _ _ _ 0 s.requires.0 ear.ear-in.ensures put.before.before.if1.true,
       s.requires.1,
     )
 

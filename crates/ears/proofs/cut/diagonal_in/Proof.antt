@@ -4,7 +4,7 @@ use Prim.Native.Nat.{◌+◌, ◌-◌}
 use native.Mathlib.Omega.{arith}
 use borrow.Author.Rules.{rules}
 use lib.Seq.{length-take-le}
-use Rattle.mem.specs.Slice.{length-view}
+use Rattle.mem.specs.Slice.{length_view}
 use Rattle.ears.proofs.cut.diagonal_in.Statement.{statement}
 use Rattle.ears.proofs.cut.diagonal_in.Tie as tie
 
@@ -30,14 +30,14 @@ is-diagonal-requires : tie.Need-is-diagonal-requires
 is-diagonal-requires c κs =
     let s = c.before.before.before in
     let e : s.args.a + s.args.m - s.args.a ≡ s.args.m = omega arith in
-    let n = length-view s.args.w.now s.args.a s.args.m s.requires.0.room in
+    let n = length_view s.args.w.now s.args.a s.args.m s.requires.0.room in
     rw e (s.requires.0.ring, rw n s.requires.1, rw n s.requires.2)
 
 returns : tie.Need-returns
 returns c =
     let s = c.before.before.before.before in
     let e : s.args.a + s.args.m - s.args.a ≡ s.args.m = omega arith in
-    rw (e, length-view s.args.w.now s.args.a s.args.m s.requires.0.room) at c.is-diagonal.ensures
+    rw (e, length_view s.args.w.now s.args.a s.args.m s.requires.0.room) at c.is-diagonal.ensures
 
 pub diagonal-in-spec : {M : Type 1} → statement M
 diagonal-in-spec =

@@ -3,17 +3,17 @@ use Prim.Native.Nat.{◌<◌}
 use native.Mathlib.Omega.{arith}
 use borrow.Author.Rules.{rules}
 use lib.ListN.{length-set}
-use Rattle.laws.specs.Ring.{next-below}
-use Rattle.ears.proofs.Parts.{triangle-put}
+use Rattle.laws.specs.Ring.{next_below}
+use Rattle.ears.proofs.Parts.{triangle_put}
 use Rattle.ears.proofs.cut.put_triangle.Statement.{statement}
 use Rattle.ears.proofs.cut.put_triangle.Tie as tie
 
 -- the places of the second and the third word
 second : (c : tie.After-next) → c.next.result < c.before.before.args.m
-second c = rw c.next.ensures (next-below _ _ (omega arith))
+second c = rw c.next.ensures (next_below _ _ (omega arith))
 
 third : (c : tie.After-next2) → c.next2.result < c.before.before.before.args.m
-third c = rw c.next2.ensures (next-below _ _ (omega arith))
+third c = rw c.next2.ensures (next_below _ _ (omega arith))
 
 next-requires : tie.Need-next-requires
 next-requires c κs = search rules
@@ -88,7 +88,7 @@ returns : tie.Need-returns
 returns c =
     let one = c.before.before.before.before in
     let places = one.before.before in
-    triangle-put _ _ _ _ _ (omega arith) places.before.before.before.requires.0 places.before.next.ensures places.next2.ensures
+    triangle_put _ _ _ _ _ (omega arith) places.before.before.before.requires.0 places.before.next.ensures places.next2.ensures
     one.index_of.ensures c.before.before.index-of2.ensures c.index-of3.ensures
 
 pub put-triangle-spec : {M : Type 1} → statement M

@@ -1,9 +1,9 @@
 -- `ears::cut::remark_gap` meets its contract: two marks, one after the other, each of words that are ready. Assumes nothing.
 use native.Mathlib.Omega.{arith}
 use borrow.Author.Rules.{rules}
-use Rattle.laws.specs.Ring.{next-below}
-use Rattle.laws.specs.Ring.{prev-below}
-use Rattle.ears.proofs.Parts.{marked-ready, gap-marked}
+use Rattle.laws.specs.Ring.{next_below}
+use Rattle.laws.specs.Ring.{prev_below}
+use Rattle.ears.proofs.Parts.{marked_ready, gap_marked}
 use Rattle.ears.proofs.cut.remark_gap.Statement.{statement}
 use Rattle.ears.proofs.cut.remark_gap.Tie as tie
 
@@ -13,7 +13,7 @@ prev-requires c κs = search rules
 remark-in-requires : tie.Need-remark-in-requires
 remark-in-requires c κs =
     let s = c.before.before.before in
-    (s.requires.0, rw c.prev.ensures (prev-below _ _ s.requires.1), s.requires.2, s.requires.1)
+    (s.requires.0, rw c.prev.ensures (prev_below _ _ s.requires.1), s.requires.2, s.requires.1)
 
 next-requires : tie.Need-next-requires
 next-requires c κs = search rules
@@ -22,7 +22,7 @@ remark-in-requires-2 : tie.Need-remark-in-requires-2
 remark-in-requires-2 c κs =
     let put = c.before.before.before.before in
     let s = put.before.before.before.before in
-    (marked-ready _ _ _ _ _ _ s.requires.0 put.remark-in.ensures, s.requires.1, rw c.next.ensures (next-below _ _ (omega arith)), s.requires.2)
+    (marked_ready _ _ _ _ _ _ s.requires.0 put.remark-in.ensures, s.requires.1, rw c.next.ensures (next_below _ _ (omega arith)), s.requires.2)
 
 same_length : tie.Need-same-length
 same_length c = search rules
@@ -31,7 +31,7 @@ returns : tie.Need-returns
 returns c =
     let put = c.before.before.before.before.before.before.before in
     let s = put.before.before.before.before in
-    gap-marked _ _ _ _ _ s.requires.0 put.before.prev.ensures c.before.before.before.next.ensures
+    gap_marked _ _ _ _ _ s.requires.0 put.before.prev.ensures c.before.before.before.next.ensures
     put.remark-in.ensures c.before.before.remark-in2.ensures
 
 pub remark-gap-spec : {M : Type 1} → statement M

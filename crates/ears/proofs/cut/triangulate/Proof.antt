@@ -6,9 +6,9 @@ use Prim.Native.Nat.{ℕ, ◌+◌, ◌-◌, ◌*◌}
 use native.Mathlib.Omega.{arith}
 use borrow.Author.Rules.{rules}
 use lib.ListN.{length, take, drop}
-use Rattle.mem.specs.Slice.{splice, length-splice, lent-sized}
+use Rattle.mem.specs.Slice.{splice, length_splice, lent_sized}
 use Rattle.rules.specs.Ears.{indices}
-use Rattle.ears.proofs.Cuts.{counted_ready, marked-ready, answered, done-words, stuck-words}
+use Rattle.ears.proofs.Cuts.{counted_ready, marked_ready, answered, done_words, stuck_words}
 use Rattle.ears.proofs.cut.triangulate.Statement.{statement}
 use Rattle.ears.proofs.cut.triangulate.Tie as tie
 
@@ -25,14 +25,14 @@ counted : (c : tie.After-part)
 counted c =
     let s = c.before.before.before.before in
     let e : points c * 3 - points c * 2 ≡ points c = omega arith in
-    lent-sized indices (before-it c) c.before.count-up.new.0 (points c * 2) (points c) _ e
+    lent_sized indices (before-it c) c.before.count-up.new.0 (points c * 2) (points c) _ e
     c.before.count-up.ensures c.before.count-up.auto.0 (omega (arith, s.requires.some, s.requires.size))
 
 -- its length at the cutting, and after it
 marked-long : (c : tie.After-part2) → length c.before.mark-all.new.0 ≡ length (before-it c.before.before.before.before)
 marked-long c =
     let first = c.before.before.before.before in
-    c.before.mark-all.auto.0 ∙ ap length (counted first) ∙ length-splice (before-it first) (points first * 2) (indices (points first))
+    c.before.mark-all.auto.0 ∙ ap length (counted first) ∙ length_splice (before-it first) (points first * 2) (indices (points first))
 
 cut-long : (c : tie.After-part3)
     → length c.before.Cut-all.new.0 ≡ length (before-it c.before.before.before.before.before.before.before.before)
@@ -66,7 +66,7 @@ cut-all-requires : tie.Need-cut-all-requires
 cut-all-requires c κs =
     let s = c.before.before.before.before.before.before.before.before.before.before in
     let first = c.before.before.before.before.before.before in (
-      marked-ready _ _ s.requires (counted first) c.before.before.before.mark-all.ensures,
+      marked_ready _ _ s.requires (counted first) c.before.before.before.mark-all.ensures,
       s.requires.some,
       omega (arith, marked-long c.before.before, s.requires.some, s.requires.size),
     )
@@ -101,7 +101,7 @@ returns c =
     let l = cut-long c.before.before.before.before.before.before.before in
     let ended = c.before.before.fill in (
       answered n v s.requires (counted first) marks.mark-all.ensures cuts.Cut-all.ensures,
-      done-words n v s.requires (counted first) marks.mark-all.ensures cuts.Cut-all.ensures q l ended.ensures,
+      done_words n v s.requires (counted first) marks.mark-all.ensures cuts.Cut-all.ensures q l ended.ensures,
     )
 
 same-length-2 : tie.Need-same-length-2
@@ -119,7 +119,7 @@ returns-2 c =
     let q = c.before.before.before.before.enum-told2.given.1 in
     let ended = c.before.before.fill2 in (
       answered n v s.requires (counted first) marks.mark-all.ensures cuts.Cut-all.ensures,
-      stuck-words n v s.requires (counted first) marks.mark-all.ensures cuts.Cut-all.ensures q l ended.ensures,
+      stuck_words n v s.requires (counted first) marks.mark-all.ensures cuts.Cut-all.ensures q l ended.ensures,
     )
 
 pub triangulate-spec : {M : Type 1} → statement M

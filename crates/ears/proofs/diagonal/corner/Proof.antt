@@ -2,7 +2,7 @@
 use mathlib.Core.Path.{sym, ◌∙◌, ap}
 use borrow.Author.Rules.{rules}
 use Rattle.plane.specs.Points.{point_of}
-use Rattle.ears.proofs.Rings.{corner-is, corner-room}
+use Rattle.ears.proofs.Rings.{corner_is, corner_room}
 use Rattle.ears.proofs.diagonal.corner.Statement.{statement}
 use Rattle.ears.proofs.diagonal.corner.Tie as tie
 
@@ -21,12 +21,12 @@ cast-v c = search rules
 point-at-requires : tie.Need-point-at-requires
 point-at-requires c κs =
     let s = c.before.before.before.before in
-    (s.requires.0.grid, rw c.index_of.ensures (corner-room s.requires.0 s.args.k s.requires.1))
+    (s.requires.0.grid, rw c.index_of.ensures (corner_room s.requires.0 s.args.k s.requires.1))
 
 returns : tie.Need-returns
 returns c =
     let s = c.before.before.before.before.before in (
-      c.point_at.ensures.0 ∙ ap (point_of s.args.pts.now) c.before.index_of.ensures ∙ sym (corner-is s.requires.0 s.args.k s.requires.1),
+      c.point_at.ensures.0 ∙ ap (point_of s.args.pts.now) c.before.index_of.ensures ∙ sym (corner_is s.requires.0 s.args.k s.requires.1),
       c.point_at.ensures.1,
     )
 

@@ -1,8 +1,8 @@
 -- `ears::diagonal::does_stop` meets its contract: a side apart from the box hits nothing, and each further return is the definition with the tests known
 -- up to it. Assumes nothing.
 use borrow.Author.Rules.{rules}
-use Rattle.ears.specs.Ring.{sideStops}
-use Rattle.ears.proofs.Stops.{passed-by}
+use Rattle.ears.specs.Ring.{side_stops}
+use Rattle.ears.proofs.Stops.{passed_by}
 use Rattle.ears.proofs.diagonal.does_stop.Statement.{statement}
 use Rattle.ears.proofs.diagonal.does_stop.Tie as tie
 
@@ -12,21 +12,21 @@ are-apart-requires c κs = search rules
 returns : tie.Need-returns
 returns c =
     let s = c.before.before in
-    passed-by s.args.kind s.args.i s.args.j s.args.a s.args.b s.args.k s.args.l s.args.c s.args.d
+    passed_by s.args.kind s.args.i s.args.j s.args.a s.args.b s.args.k s.args.l s.args.c s.args.d
     s.requires.4 s.requires.2 c.before.are-apart.ensures c.if1.true
 
 at-ends-requires : tie.Need-at-ends-requires
 at-ends-requires c κs = search rules
 
 returns-2 : tie.Need-returns-2
-unfolding sideStops
+unfolding side_stops
 returns-2 c = rw (← c.before.at-ends.ensures, c.if2.true)
 
 shares-end-requires : tie.Need-shares-end-requires
 shares-end-requires c κs = search rules
 
 returns-3 : tie.Need-returns-3
-unfolding sideStops
+unfolding side_stops
 returns-3 c =
     let away = c.before.before in
     rw (← away.before.at-ends.ensures, away.if2.false, ← c.before.shares-end.ensures, c.if3.true)
@@ -35,7 +35,7 @@ is-hit-requires : tie.Need-is-hit-requires
 is-hit-requires c κs = search rules
 
 returns-4 : tie.Need-returns-4
-unfolding sideStops
+unfolding side_stops
 returns-4 c =
     let unshared = c.before in
     let away = unshared.before.before in

@@ -10,19 +10,19 @@ use mir.Syntax.{w64}
 use mir.Val.{Fits}
 use Rattle.mem.specs.Loops.{Left, turn, next, end}
 use Rattle.rules.specs.Plane.{InGrid}
-use Rattle.rules.specs.Diagonal.{stops, isBlocked}
-use Rattle.rules.specs.Ears.{pointAt}
-use Rattle.laws.specs.Ring.{next-in, next-below}
-use Rattle.plane.specs.Points.{pointsIn}
-use Rattle.ears.proofs.Rings.{first-grid, second-grid}
-use Rattle.ears.proofs.Stops.{side-at, no-side}
+use Rattle.rules.specs.Diagonal.{stops, is_blocked}
+use Rattle.rules.specs.Ears.{point_at}
+use Rattle.laws.specs.Ring.{next_in, next_below}
+use Rattle.plane.specs.Points.{points_in}
+use Rattle.ears.proofs.Rings.{first_grid, second_grid}
+use Rattle.ears.proofs.Stops.{side_at, no_side_lem}
 use Rattle.ears.proofs.diagonal.is_clear.Statement.{statement}
 use Rattle.ears.proofs.diagonal.is_clear.Tie as tie
 
 abbrev invariant-loop : tie.invariant-loop
 invariant-loop kind pts ix i j a b n t c₀ k₀ c k =
-    let p = pointAt (pointsIn pts) ix in
-    Left false ◌||◌ (stops kind p (length ix) i j) not (not (isBlocked kind p (length ix) i j)) (length ix) k × (k < length ix → c ≡ p k) × InGrid c
+    let p = point_at (points_in pts) ix in
+    Left false ◌||◌ (stops kind p (length ix) i j) not (not (is_blocked kind p (length ix) i j)) (length ix) k × (k < length ix → c ≡ p k) × InGrid c
 
 abbrev decreases-loop : tie.decreases-loop
 decreases-loop kind pts ix i j a b n t c₀ k₀ c k = length ix - k
@@ -45,11 +45,11 @@ in-ring c = c.before.before.before.if2.false
 -- what was found is whether the side at place k stops the diagonal
 found-is : (c : tie.After-does-stop invariant-loop decreases-loop)
     → let s = (call (standing c)).args in
-    c.does-stop.result ≡ stops s.kind (pointAt (pointsIn s.pts.now) s.ix.now) (length s.ix.now) s.i s.j (standing c).loop.k
+    c.does-stop.result ≡ stops s.kind (point_at (points_in s.pts.now) s.ix.now) (length s.ix.now) s.i s.j (standing c).loop.k
 found-is c =
     let s = call (standing c) in
     c.does-stop.ensures
-    ∙ side-at s.args.kind (standing c).loop.k s.pre.1 c.before.before.next.ensures
+    ∙ side_at s.args.kind (standing c).loop.k s.pre.1 c.before.before.next.ensures
     ((standing c).loop.invariant.1 (in-ring c)) c.before.corner2.ensures.0
 
 leaves-no-side-requires : tie.Need-leaves-no-side-requires invariant-loop decreases-loop
@@ -58,30 +58,30 @@ leaves-no-side-requires c κs = search rules
 returns : tie.Need-returns invariant-loop decreases-loop
 returns c =
     let s = c.before.before.before.before in
-    no-side s.args.kind _ (length s.args.ix.now) s.args.i s.args.j s.requires.1.i-in c.before.leaves-no-side.ensures c.if1.true
+    no_side_lem s.args.kind _ (length s.args.ix.now) s.args.i s.args.j s.requires.1.i_in c.before.leaves-no-side.ensures c.if1.true
 
 bounds-of-requires : tie.Need-bounds-of-requires invariant-loop decreases-loop
 bounds-of-requires c κs = search rules
 
 corner-requires : tie.Need-corner-requires invariant-loop decreases-loop
-corner-requires c κs = let s = c.before.before.before.before.before in (s.requires.0, omega (arith, s.requires.1.i-in))
+corner-requires c κs = let s = c.before.before.before.before.before in (s.requires.0, omega (arith, s.requires.1.i_in))
 
 loop-holds : tie.Need-loop-init invariant-loop decreases-loop
-unfolding isBlocked
+unfolding is_blocked
 loop-holds c = (record { same = refl }, λ _. c.corner.ensures.0, c.corner.ensures.1)
 
 next-requires : tie.Need-next-requires invariant-loop decreases-loop
 next-requires c κs = search rules
 
 corner-requires-2 : tie.Need-corner-requires-2 invariant-loop decreases-loop
-corner-requires-2 c κs = ((call c.before.before).pre.0, rw c.next.ensures (next-below _ _ (omega (arith, c.before.if2.false))))
+corner-requires-2 c κs = ((call c.before.before).pre.0, rw c.next.ensures (next_below _ _ (omega (arith, c.before.if2.false))))
 
 does-stop-requires : tie.Need-does-stop-requires invariant-loop decreases-loop
 does-stop-requires c κs =
     let at-loop = c.before.before.before in
     let s = call at-loop in (
-      first-grid s.pre.0 s.pre.1,
-      second-grid s.pre.0 s.pre.1,
+      first_grid s.pre.0 s.pre.1,
+      second_grid s.pre.0 s.pre.1,
       at-loop.loop.invariant.2,
       c.corner2.ensures.1,
       at-loop.before.before.bounds_of.ensures,
@@ -100,7 +100,7 @@ loop-again c =
     let s = call now in (
       next now.loop.inv.0 (in-ring c.before) (λ r. ap (λ (t : Bool). t || r) (sym (found-is c.before) ∙ c.if3.false)),
       λ (h : now.loop.k + 1 < length s.args.ix.now).
-          at-end.corner2.ensures.0 ∙ ap (pointAt (pointsIn s.args.pts.now) s.args.ix.now) (at-end.before.next.ensures ∙ next-in _ _ h),
+          at-end.corner2.ensures.0 ∙ ap (point_at (points_in s.args.pts.now) s.args.ix.now) (at-end.before.next.ensures ∙ next_in _ _ h),
       at-end.corner2.ensures.1,
     )
 

@@ -2,9 +2,9 @@
 -- Assumes nothing.
 use native.Mathlib.Omega.{arith}
 use borrow.Author.Rules.{rules}
-use Rattle.rules.specs.Diagonal.{isDiagonal}
-use Rattle.laws.specs.Ring.{next-below}
-use Rattle.laws.specs.Ring.{prev-below}
+use Rattle.rules.specs.Diagonal.{is_diagonal}
+use Rattle.laws.specs.Ring.{next_below}
+use Rattle.laws.specs.Ring.{prev_below}
 use Rattle.ears.proofs.diagonal.is_diagonal.Statement.{statement}
 use Rattle.ears.proofs.diagonal.is_diagonal.Tie as tie
 
@@ -12,7 +12,7 @@ prev-requires : tie.Need-prev-requires
 prev-requires c κs = search rules
 
 corner-requires : tie.Need-corner-requires
-corner-requires c κs = (c.before.before.before.requires.0, rw c.prev.ensures (prev-below _ _ c.before.before.before.requires.1))
+corner-requires c κs = (c.before.before.before.requires.0, rw c.prev.ensures (prev_below _ _ c.before.before.before.requires.1))
 
 corner-requires-2 : tie.Need-corner-requires-2
 corner-requires-2 c κs = search rules
@@ -21,7 +21,7 @@ next-requires : tie.Need-next-requires
 next-requires c κs = search rules
 
 corner-requires-3 : tie.Need-corner-requires-3
-corner-requires-3 c κs = (c.before.before.before.before.before.before.requires.0, rw c.next.ensures (next-below _ _ (omega arith)))
+corner-requires-3 c κs = (c.before.before.before.before.before.before.requires.0, rw c.next.ensures (next_below _ _ (omega arith)))
 
 corner-requires-4 : tie.Need-corner-requires-4
 corner-requires-4 c κs = search rules
@@ -33,7 +33,7 @@ is-clear-requires : tie.Need-is-clear-requires
 is-clear-requires c κs = search rules
 
 returns : tie.Need-returns
-unfolding isDiagonal
+unfolding is_diagonal
 returns c =
     rw (
       ← c.before.before.before.before.before.before.before.before.prev.ensures,
@@ -47,7 +47,7 @@ returns c =
     ) c.is-clear.ensures
 
 returns-2 : tie.Need-returns-2
-unfolding isDiagonal
+unfolding is_diagonal
 returns-2 c =
     rw (
       ← c.before.before.before.before.before.before.before.prev.ensures,

@@ -1,12 +1,12 @@
 -- `ears::index::is_marked` meets its contract: the top bit tells the words from 2^31 on. Assumes nothing.
 use borrow.Author.Rules.{rules}
-use Rattle.rules.specs.Ears.{isMarked}
+use Rattle.rules.specs.Ears.{is_marked}
 use Rattle.ears.proofs.Bits.{top_bit}
 use Rattle.ears.proofs.index.is_marked.Statement.{statement}
 use Rattle.ears.proofs.index.is_marked.Tie as tie
 
 returns : tie.Need-returns
-unfolding isMarked
+unfolding is_marked
 returns c = top_bit c.args.w (search rules)
 
 pub is-marked-spec : {M : Type 1} → statement M

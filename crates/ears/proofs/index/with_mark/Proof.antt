@@ -3,16 +3,16 @@ use mathlib.Core.Path.{◌∙◌}
 use Prim.Native.Nat.{◌%◌, ◌^◌}
 use native.Mathlib.Omega.{arith}
 use lib.Bits.{and_mask, or_shifted_r}
-use Rattle.rules.specs.Ears.{index_of, withMark}
+use Rattle.rules.specs.Ears.{index_of, with_mark}
 use Rattle.ears.proofs.index.with_mark.Statement.{statement}
 use Rattle.ears.proofs.index.with_mark.Tie as tie
 
 returns : tie.Need-returns
-unfolding withMark index_of
+unfolding with_mark index_of
 returns c = rw (c.if1.true, and_mask c.before.args.w 28) (or_shifted_r 1 31 (c.before.args.w % 2 ^ 28) (omega arith) ∙ omega arith)
 
 returns-2 : tie.Need-returns-2
-unfolding withMark index_of
+unfolding with_mark index_of
 returns-2 c = rw c.if1.false (and_mask c.before.args.w 28)
 
 pub with-mark-spec : {M : Type 1} → statement M

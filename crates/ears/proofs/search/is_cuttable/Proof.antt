@@ -3,14 +3,14 @@ use Prim.Native.Nat.{◌<◌}
 use native.Mathlib.Omega.{arith}
 use borrow.Author.Rules.{rules}
 use lib.ListN.{length}
-use Rattle.rules.specs.Ears.{isCuttable}
-use Rattle.laws.specs.Ring.{next-below}
+use Rattle.rules.specs.Ears.{is_cuttable}
+use Rattle.laws.specs.Ring.{next_below}
 use Rattle.ears.proofs.search.is_cuttable.Statement.{statement}
 use Rattle.ears.proofs.search.is_cuttable.Tie as tie
 
 -- the place after i
 place : (c : tie.After-next) → c.next.result < length c.before.before.before.args.ix.now
-place c = rw c.next.ensures (next-below _ _ (omega arith))
+place c = rw c.next.ensures (next_below _ _ (omega arith))
 
 next-requires : tie.Need-next-requires
 next-requires c κs = search rules
@@ -36,14 +36,14 @@ next-requires-2 c κs = search rules
 is-diagonal-requires : tie.Need-is-diagonal-requires
 is-diagonal-requires c κs =
     let s = c.before.before.before.before.before.before in
-    (s.requires.0, s.requires.1, rw c.next2.ensures (next-below _ _ (omega arith)))
+    (s.requires.0, s.requires.1, rw c.next2.ensures (next_below _ _ (omega arith)))
 
 returns : tie.Need-returns
-unfolding isCuttable
+unfolding is_cuttable
 returns c = rw (c.before.before.enum_told.given.1, ← c.before.before.before.before.next.ensures) c.is-marked.ensures
 
 returns-2 : tie.Need-returns-2
-unfolding isCuttable
+unfolding is_cuttable
 returns-2 c =
     rw (c.before.before.enum-told2.given.1, ← c.before.before.before.before.next.ensures, ← c.before.next2.ensures)
     c.is-diagonal.ensures

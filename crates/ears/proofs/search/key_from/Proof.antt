@@ -1,8 +1,8 @@
 -- `ears::search::key_from` meets its contract: each arm is the definition at its kind; the places that it reads are in the ring. Assumes nothing.
 use native.Mathlib.Omega.{arith}
 use borrow.Author.Rules.{rules}
-use Rattle.rules.specs.Ears.{keyFrom, keyEnd}
-use Rattle.laws.specs.Ring.{next-below}
+use Rattle.rules.specs.Ears.{key_from, key_end}
+use Rattle.laws.specs.Ring.{next_below}
 use Rattle.ears.proofs.search.key_from.Statement.{statement}
 use Rattle.ears.proofs.search.key_from.Tie as tie
 
@@ -20,7 +20,7 @@ enum_told c = search rules
 
 corner-requires-2 : tie.Need-corner-requires-2
 corner-requires-2 c κs =
-    (c.before.before.before.before.before.before.before.requires.0, rw c.before.before.before.next2.ensures (next-below _ _ (omega arith)))
+    (c.before.before.before.before.before.before.before.requires.0, rw c.before.before.before.next2.ensures (next_below _ _ (omega arith)))
 
 key-of-requires : tie.Need-key-of-requires
 key-of-requires c κs = search rules
@@ -33,13 +33,13 @@ next-requires-3 c κs = search rules
 
 corner-requires-3 : tie.Need-corner-requires-3
 corner-requires-3 c κs =
-    (c.before.before.before.before.before.before.before.before.requires.0, rw c.next3.ensures (next-below _ _ (omega arith)))
+    (c.before.before.before.before.before.before.before.before.requires.0, rw c.next3.ensures (next_below _ _ (omega arith)))
 
 key-of-requires-2 : tie.Need-key-of-requires-2
 key-of-requires-2 c κs = search rules
 
 returns : tie.Need-returns
-unfolding keyFrom keyEnd
+unfolding key_from key_end
 returns c =
     let a = c.before.before.before.before in
     rw (
@@ -52,7 +52,7 @@ returns c =
     c.key_of.ensures
 
 returns-2 : tie.Need-returns-2
-unfolding keyFrom keyEnd
+unfolding key_from key_end
 returns-2 c =
     let a = c.before.before.before.before.before in
     rw (

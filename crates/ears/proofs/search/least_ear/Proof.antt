@@ -6,21 +6,21 @@ use Prim.Native.Nat.{◌-◌}
 use native.Mathlib.Omega.{arith}
 use borrow.Author.Rules.{rules}
 use lib.ListN.{length}
-use Rattle.mem.specs.Loops.{Doing, doing-more, doing_end}
-use Rattle.rules.specs.Ears.{tryEar, leastEar}
-use Rattle.plane.specs.Points.{pointsIn}
+use Rattle.mem.specs.Loops.{Doing, doing_more, doing_end}
+use Rattle.rules.specs.Ears.{try_ear, least_ear}
+use Rattle.plane.specs.Points.{points_in}
 use Rattle.ears.proofs.Tries.{tried, passed}
 use Rattle.ears.proofs.search.least_ear.Statement.{statement}
 use Rattle.ears.proofs.search.least_ear.Tie as tie
 
 abbrev invariant-loop : tie.invariant-loop
-invariant-loop kind pts ix n best₀ i₀ best i = Doing (tryEar kind (pointsIn pts) ix) (leastEar kind (pointsIn pts) ix) (length ix) best i
+invariant-loop kind pts ix n best₀ i₀ best i = Doing (try_ear kind (points_in pts) ix) (least_ear kind (points_in pts) ix) (length ix) best i
 
 abbrev decreases-loop : tie.decreases-loop
 decreases-loop kind pts ix n best₀ i₀ best i = length ix - i
 
 loop-holds : tie.Need-loop-init invariant-loop decreases-loop
-unfolding leastEar
+unfolding least_ear
 loop-holds c = record { same = refl }
 
 is-cuttable-requires : tie.Need-is-cuttable-requires invariant-loop decreases-loop
@@ -42,7 +42,7 @@ loop-again : tie.Need-loop-preserved invariant-loop decreases-loop
 loop-again c =
     let p = c.before.is-cuttable.ensures in
     let e = c.before.before.before.loop.best in
-    doing-more c.before.before.before.loop.invariant c.before.before.loop-test.true
+    doing_more c.before.before.before.loop.invariant c.before.before.loop-test.true
     (⊎_elim
     (λ w. w.3 ∙ tried _ _ _ _ e p w.0.taken w.1.ensures w.2.ensures)
     (λ w. w.1 ∙ passed _ _ _ _ e p w.0.left)

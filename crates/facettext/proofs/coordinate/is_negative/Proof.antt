@@ -1,11 +1,11 @@
 -- `facettext::coordinate::is_negative` meets its contract: it is the definition. Assumes nothing.
 use mathlib.Core.Path.{refl}
-use Rattle.rules.specs.StlText.{isNegative}
+use Rattle.rules.specs.StlText.{is_negative}
 use Rattle.facettext.proofs.coordinate.is_negative.Statement.{statement}
 use Rattle.facettext.proofs.coordinate.is_negative.Tie as tie
 
 returns : tie.Need-returns
-unfolding isNegative
+unfolding is_negative
 returns c = refl
 
 pub is-negative-spec : {M : Type 1} → statement M

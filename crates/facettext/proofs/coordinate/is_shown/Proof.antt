@@ -1,5 +1,5 @@
 -- `facettext::coordinate::is_shown` meets its contract: it is the definition. Assumes nothing.
-use Rattle.rules.specs.StlText.{isShown}
+use Rattle.rules.specs.StlText.{is_shown}
 use borrow.Author.Rules.{rules}
 use Rattle.facettext.proofs.coordinate.is_shown.Statement.{statement}
 use Rattle.facettext.proofs.coordinate.is_shown.Tie as tie
@@ -8,7 +8,7 @@ exponent-of-requires : tie.Need-exponent-of-requires
 exponent-of-requires c κs = search rules
 
 returns : tie.Need-returns
-unfolding isShown
+unfolding is_shown
 returns c = rw c.exponent-of.ensures
 
 pub is-shown-spec : {M : Type 1} → statement M

@@ -1,17 +1,17 @@
 -- `facettext::coordinate::ten_thousandths` meets its contract, by its power of two: great, less than 150, and far less. Assumes nothing.
 use Prim.Native.Nat.{◌-◌, ◌*◌, ◌≤◌}
 use native.Mathlib.Omega.{arith}
-use Rattle.facettext.proofs.Powers.{two-pow-most, two-pow-some, significand-small, power-most, great-made, small-made, tiny-made, great-fits}
+use Rattle.facettext.proofs.Powers.{two_pow_most, two_pow_some, significand_small, power_most, great_made, small_made, tiny_made, great_fits}
 use borrow.Author.Rules.{rules}
 use Rattle.facettext.proofs.coordinate.ten_thousandths.Statement.{statement}
 use Rattle.facettext.proofs.coordinate.ten_thousandths.Tie as tie
 
 -- the significand and the power are small
 small : (c : tie.After-significand-of) → c.significand-of.result ≤ 16777215
-small c = omega (arith, c.significand-of.ensures, significand-small c.before.args.p)
+small c = omega (arith, c.significand-of.ensures, significand_small c.before.args.p)
 
 most : (c : tie.After-power-of) → c.power-of.result ≤ 176
-most c = omega (arith, c.power-of.ensures, power-most c.before.before.args.p c.before.before.requires)
+most c = omega (arith, c.power-of.ensures, power_most c.before.before.args.p c.before.before.requires)
 
 significand-of-requires : tie.Need-significand-of-requires
 significand-of-requires c κs = search rules
@@ -29,12 +29,12 @@ mul-result : tie.Need-overflow-mul-result
 mul-result c =
     let s = c.before.before in
     let n : s.before.significand-of.result * 10000 ≤ 167772150000 = omega (arith, small s.before) in
-    rw c.two_to.ensures (omega (arith, great-fits (s.before.significand-of.result * 10000) s.power-of.result n (most s)))
+    rw c.two_to.ensures (omega (arith, great_fits (s.before.significand-of.result * 10000) s.power-of.result n (most s)))
 
 returns : tie.Need-returns
 returns c =
     let s = c.before.before in
-    great-made s.before.before.args.p s.before.significand-of.ensures s.power-of.ensures c.before.if1.true c.two_to.ensures
+    great_made s.before.before.args.p s.before.significand-of.ensures s.power-of.ensures c.before.if1.true c.two_to.ensures
 
 sub-d : tie.Need-overflow-sub-d
 sub-d c = search rules
@@ -42,7 +42,7 @@ sub-d c = search rules
 returns-2 : tie.Need-returns-2
 returns-2 c =
     let s = c.before.before in
-    tiny-made s.before.before.args.p s.before.significand-of.ensures s.power-of.ensures (omega (arith, c.before.if1.false)) c.if2.true
+    tiny_made s.before.before.args.p s.before.significand-of.ensures s.power-of.ensures (omega (arith, c.before.if1.false)) c.if2.true
 
 sub-two-to : tie.Need-overflow-sub-two-to
 sub-two-to c = search rules
@@ -53,19 +53,19 @@ two-to-requires-2 c κs = search rules
 add-result : tie.Need-overflow-add-result
 add-result c =
     let s = c.before.before.before in
-    omega (arith, small s.before, c.two-to2.ensures, two-pow-most (150 - s.power-of.result - 1) 40 (omega arith))
+    omega (arith, small s.before, c.two-to2.ensures, two_pow_most (150 - s.power-of.result - 1) 40 (omega arith))
 
 two-to-requires-3 : tie.Need-two-to-requires-3
 two-to-requires-3 c κs = search rules
 
 div-result : tie.Need-nonzero-div-result
-div-result c = omega (arith, c.two-to3.ensures, two-pow-some (150 - c.before.before.before.before.power-of.result))
+div-result c = omega (arith, c.two-to3.ensures, two_pow_some (150 - c.before.before.before.before.power-of.result))
 
 returns-3 : tie.Need-returns-3
 returns-3 c =
     let less = c.before.before.before in
     let s = less.before in
-    small-made s.before.before.args.p s.before.significand-of.ensures s.power-of.ensures
+    small_made s.before.before.args.p s.before.significand-of.ensures s.power-of.ensures
     (omega (arith, less.if1.false)) (omega (arith, less.if1.false)) c.before.two-to2.ensures c.two-to3.ensures
 
 pub ten-thousandths-spec : {M : Type 1} → statement M

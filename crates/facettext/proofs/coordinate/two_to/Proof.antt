@@ -2,7 +2,7 @@
 use mathlib.Core.Path.{◌≡◌, refl, sym, ap, ◌∙◌}
 use Prim.Native.Nat.{ℕ, ◌+◌, ◌-◌, ◌*◌, ◌^◌, ◌≤◌}
 use native.Mathlib.Omega.{arith}
-use Rattle.facettext.proofs.Powers.{pow_more, two-pow-most}
+use Rattle.facettext.proofs.Powers.{pow_more, two_pow_most}
 use borrow.Author.Rules.{rules}
 use Rattle.facettext.proofs.coordinate.two_to.Statement.{statement}
 use Rattle.facettext.proofs.coordinate.two_to.Tie as tie
@@ -21,7 +21,7 @@ loop-holds : tie.Need-loop-init invariant-loop decreases-loop
 loop-holds c = (omega arith, refl)
 
 mul-r : tie.Need-overflow-mul-r invariant-loop decreases-loop
-mul-r c = omega (arith, doubled c, two-pow-most (c.before.loop.i + 1) 63 (omega arith))
+mul-r c = omega (arith, doubled c, two_pow_most (c.before.loop.i + 1) 63 (omega arith))
 
 add-i : tie.Need-overflow-add-i invariant-loop decreases-loop
 add-i c = search rules

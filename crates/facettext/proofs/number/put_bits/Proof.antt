@@ -2,8 +2,8 @@
 use Prim.Native.Nat.{◌+◌, ◌-◌, ◌≤◌}
 use native.Mathlib.Omega.{arith}
 use lib.ListN.{length, length-set}
-use Rattle.lines.specs.Printing.{printed-same-length}
-use Rattle.facettext.proofs.Bits.{Bits, bits-long, bits_none, bits-some, bits-more, bits-printed}
+use Rattle.lines.specs.Printing.{printed_same_length}
+use Rattle.facettext.proofs.Bits.{Bits, bits_long, bits_none, bits_some, bits_more, bits_printed}
 use borrow.Author.Rules.{rules}
 use Rattle.facettext.proofs.number.put_bits.Statement.{statement}
 use Rattle.facettext.proofs.number.put_bits.Tie as tie
@@ -16,7 +16,7 @@ decreases-loop out₀ at p shift₀ i₀ out shift i = 8 - i
 
 -- there is room for nine bytes, before and in the loop
 room : (s : tie.Start invariant-loop decreases-loop) → s.args.at + 9 ≤ length s.args.out.now
-room s = rw (bits-long s.args.p) at s.requires
+room s = rw (bits_long s.args.p) at s.requires
 
 still : (c : tie.At-loop invariant-loop decreases-loop) → c.before.before.args.at + 9 ≤ length c.loop.out
 still c =
@@ -30,7 +30,7 @@ loop-holds : tie.Need-loop-init invariant-loop decreases-loop
 loop-holds c = bits_none _ _ _
 
 div-hex-digit : tie.Need-nonzero-div-hex-digit invariant-loop decreases-loop
-div-hex-digit c = bits-some c.before.loop.invariant c.loop-test.true
+div-hex-digit c = bits_some c.before.loop.invariant c.loop-test.true
 
 hex-digit-requires : tie.Need-hex-digit-requires invariant-loop decreases-loop
 hex-digit-requires c κs = omega arith
@@ -51,16 +51,16 @@ loop-less : tie.Need-loop-smaller invariant-loop decreases-loop
 loop-less c = search rules
 
 loop-again : tie.Need-loop-preserved invariant-loop decreases-loop
-loop-again c = bits-more c.before.before.loop.invariant c.before.loop-test.true c.hex-digit.ensures
+loop-again c = bits_more c.before.before.loop.invariant c.before.loop-test.true c.hex-digit.ensures
 
 add-result : tie.Need-overflow-add-result invariant-loop decreases-loop
 add-result c = omega (arith, still c.before)
 
 returns : tie.Need-returns invariant-loop decreases-loop
-returns c = bits-printed c.before.loop.invariant c.loop-test.false
+returns c = bits_printed c.before.loop.invariant c.loop-test.false
 
 same_length : tie.Need-same-length invariant-loop decreases-loop
-same_length c = printed-same-length (returns c)
+same_length c = printed_same_length (returns c)
 
 pub put-bits-spec : {M : Type 1} → statement M
 put-bits-spec =

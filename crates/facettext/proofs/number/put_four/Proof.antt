@@ -4,14 +4,14 @@ use mathlib.Core.List.{[], ◌∷◌}
 use Prim.Native.Nat.{◌+◌, ◌≤◌}
 use native.Mathlib.Omega.{arith}
 use lib.ListN.{length, length-set}
-use Rattle.mem.specs.Slice.{setEach, stored-each}
-use Rattle.rules.specs.StlText.{fourDigits}
+use Rattle.mem.specs.Slice.{set_each, stored_each}
+use Rattle.rules.specs.StlText.{four_digits}
 use borrow.Author.Rules.{rules}
 use Rattle.facettext.proofs.number.put_four.Statement.{statement}
 use Rattle.facettext.proofs.number.put_four.Tie as tie
 
 room : (s : tie.Start) → s.args.at + 4 ≤ length s.args.out.now
-unfolding fourDigits
+unfolding four_digits
 room s = s.requires.1
 
 cast-out : tie.Need-overflow-cast-out
@@ -66,8 +66,8 @@ same_length : tie.Need-same-length
 same_length c = search rules
 
 returns : tie.Need-returns
-unfolding fourDigits setEach
-returns c = record { text = stored-each _ _ _ (_ ∷ _ ∷ _ ∷ []); next = refl }
+unfolding four_digits set_each
+returns c = record { text = stored_each _ _ _ (_ ∷ _ ∷ _ ∷ []); next = refl }
 
 pub put-four-spec : {M : Type 1} → statement M
 put-four-spec =

@@ -2,18 +2,18 @@
 use Prim.Native.Nat.{◌-◌, ◌*◌}
 use native.Mathlib.Nat.{le_refl}
 use native.Mathlib.Omega.{arith}
-use Rattle.mem.specs.Loops.{block-fits}
-use Rattle.rules.specs.Stl.{facetsIn}
-use Rattle.rules.specs.StlText.{facetLines}
-use Rattle.lines.specs.Pieces.{Pieces, pieces_none, pieces_room, pieces_more, pieces-all}
-use Rattle.lines.specs.Printing.{printed-same-length}
-use Rattle.facettext.proofs.Facets.{row, lines-over}
+use Rattle.mem.specs.Loops.{block_fits}
+use Rattle.rules.specs.Stl.{facets_in}
+use Rattle.rules.specs.StlText.{facet_lines}
+use Rattle.lines.specs.Pieces.{Pieces, pieces_none, pieces_room, pieces_more, pieces_all}
+use Rattle.lines.specs.Printing.{printed_same_length}
+use Rattle.facettext.proofs.Facets.{row, lines_over}
 use borrow.Author.Rules.{rules}
 use Rattle.facettext.proofs.rows.put_facet_lines.Statement.{statement}
 use Rattle.facettext.proofs.rows.put_facet_lines.Tie as tie
 
 abbrev invariant-loop : tie.invariant-loop
-invariant-loop out₀ at file n to₀ k₀ out to k = Pieces (row file) n (facetLines (facetsIn file)) out₀ at out to k
+invariant-loop out₀ at file n to₀ k₀ out to k = Pieces (row file) n (facet_lines (facets_in file)) out₀ at out to k
 
 abbrev decreases-loop : tie.decreases-loop
 decreases-loop out₀ at file n to₀ k₀ out to k = n - k
@@ -24,7 +24,7 @@ start c = c.before.before
 loop-holds : tie.Need-loop-init invariant-loop decreases-loop
 loop-holds c =
     let s = start c in
-    pieces_none _ _ (lines-over s.args.file.now s.args.n s.pre.0) s.pre.1.1
+    pieces_none _ _ (lines_over s.args.file.now s.args.n s.pre.0) s.pre.1.1
 
 mul-put-facet : tie.Need-overflow-mul-put-facet invariant-loop decreases-loop
 mul-put-facet c = search rules
@@ -38,7 +38,7 @@ put-facet-requires c κs =
     let s = start turn.before.before in
     let k = turn.before.loop.k in
     let n = s.args.n in
-    let fits = block-fits k n 50 (n * 50) turn.loop-test.true (le_refl (n * 50)) in
+    let fits = block_fits k n 50 (n * 50) turn.loop-test.true (le_refl (n * 50)) in
     (omega (arith, fits, s.pre.1.0), pieces_room turn.before.loop.invariant turn.loop-test.true)
 
 add-k : tie.Need-overflow-add-k invariant-loop decreases-loop
@@ -53,10 +53,10 @@ loop-again c =
     pieces_more turn.before.loop.invariant turn.loop-test.true c.before.before.put-facet.ensures
 
 returns : tie.Need-returns invariant-loop decreases-loop
-returns c = pieces-all c.before.loop.invariant c.loop-test.false
+returns c = pieces_all c.before.loop.invariant c.loop-test.false
 
 same_length : tie.Need-same-length invariant-loop decreases-loop
-same_length c = printed-same-length (returns c)
+same_length c = printed_same_length (returns c)
 
 pub put-facet-lines-spec : {M : Type 1} → statement M
 put-facet-lines-spec =

@@ -1,7 +1,7 @@
 -- `facettext::rows::put_next` meets its contract: the tab, and the coordinate behind it. Assumes nothing.
 use native.Mathlib.Omega.{arith}
-use Rattle.rules.specs.StlText.{coordinateText}
-use Rattle.lines.specs.Printing.{printed-one, printed-then, printed-same-length, room-then}
+use Rattle.rules.specs.StlText.{coordinate_text}
+use Rattle.lines.specs.Printing.{printed_one, printed_then, printed_same_length, room_then}
 use borrow.Author.Rules.{rules}
 use Rattle.facettext.proofs.rows.put_next.Statement.{statement}
 use Rattle.facettext.proofs.rows.put_next.Tie as tie
@@ -15,13 +15,13 @@ add-put-coordinate c = search rules
 put-coordinate-requires : tie.Need-put-coordinate-requires
 put-coordinate-requires c κs =
     let s = c.before.before in
-    room-then (printed-one s.args.out.now _ 9) (coordinateText s.args.p) s.requires
+    room_then (printed_one s.args.out.now _ 9) (coordinate_text s.args.p) s.requires
 
 returns : tie.Need-returns
-returns c = printed-then (printed-one _ _ 9) c.before.before.put-coordinate.ensures
+returns c = printed_then (printed_one _ _ 9) c.before.before.put-coordinate.ensures
 
 same_length : tie.Need-same-length
-same_length c = printed-same-length (returns c)
+same_length c = printed_same_length (returns c)
 
 pub put-next-spec : {M : Type 1} → statement M
 put-next-spec =

@@ -3,16 +3,16 @@ use mathlib.Core.List.{◌∷◌}
 use Prim.Native.Nat.{◌-◌}
 use lib.ListN.{length, get_or}
 use Rattle.mem.specs.Packed.{packed}
-use Rattle.rules.specs.Lines.{tabByte}
-use Rattle.rules.specs.StlText.{coordinateText}
-use Rattle.lines.specs.Pieces.{Pieces, pieces_none, pieces_room, pieces_more, pieces-all, packed-over}
+use Rattle.rules.specs.Lines.{tab_byte}
+use Rattle.rules.specs.StlText.{coordinate_text}
+use Rattle.lines.specs.Pieces.{Pieces, pieces_none, pieces_room, pieces_more, pieces_all, packed_over}
 use borrow.Author.Rules.{rules}
 use Rattle.facettext.proofs.rows.put_others.Statement.{statement}
 use Rattle.facettext.proofs.rows.put_others.Tie as tie
 
 abbrev invariant-loop : tie.invariant-loop
 invariant-loop out₀ at ps to₀ i₀ out to i =
-    Pieces (λ k. tabByte ∷ coordinateText (get_or ps k 0)) (length ps) (packed (λ p. tabByte ∷ coordinateText p) ps) out₀ at out to i
+    Pieces (λ k. tab_byte ∷ coordinate_text (get_or ps k 0)) (length ps) (packed (λ p. tab_byte ∷ coordinate_text p) ps) out₀ at out to i
 
 abbrev decreases-loop : tie.decreases-loop
 decreases-loop out₀ at ps to₀ i₀ out to i = length ps - i
@@ -20,7 +20,7 @@ decreases-loop out₀ at ps to₀ i₀ out to i = length ps - i
 loop-holds : tie.Need-loop-init invariant-loop decreases-loop
 loop-holds c =
     let start = c.before.before in
-    pieces_none _ _ (packed-over (λ p. tabByte ∷ coordinateText p) 0 start.args.ps.now) start.requires
+    pieces_none _ _ (packed_over (λ p. tab_byte ∷ coordinate_text p) 0 start.args.ps.now) start.requires
 
 mul-put-next : tie.Need-overflow-mul-put-next invariant-loop decreases-loop
 mul-put-next c = search rules
@@ -46,7 +46,7 @@ same_length : tie.Need-same-length invariant-loop decreases-loop
 same_length c = search rules
 
 returns : tie.Need-returns invariant-loop decreases-loop
-returns c = pieces-all c.before.loop.invariant c.loop-test.false
+returns c = pieces_all c.before.loop.invariant c.loop-test.false
 
 pub put-others-spec : {M : Type 1} → statement M
 put-others-spec =

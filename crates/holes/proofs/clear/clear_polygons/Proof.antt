@@ -1,4 +1,4 @@
-use Rattle.holes.proofs.Clears.{left-ready, cleared}
+use Rattle.holes.proofs.Clears.{left_ready, cleared}
 use borrow.Author.Rules.{rules}
 use Rattle.holes.proofs.clear.clear_polygons.Statement.{statement}
 use Rattle.holes.proofs.clear.clear_polygons.Tie as tie
@@ -7,7 +7,7 @@ take-out-requires : tie.Need-take-out-requires
 take-out-requires c κs = search rules
 
 drop-numbers-requires : tie.Need-drop-numbers-requires
-drop-numbers-requires c κs = left-ready c.before.before.before.before.before.before.requires c.before.before.before.take_out.ensures
+drop-numbers-requires c κs = left_ready c.before.before.before.before.before.before.requires c.before.before.before.take_out.ensures
 
 same_length : tie.Need-same-length
 same_length c = search rules

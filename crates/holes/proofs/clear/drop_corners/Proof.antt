@@ -3,21 +3,21 @@ use Prim.Native.Nat.{◌+◌, ◌-◌, ◌<◌}
 use lib.ListN.{get_or, length}
 use Rattle.mem.specs.Tab.{Filled, filled_none}
 use Rattle.rules.specs.Removal.{dropped}
-use Rattle.records.specs.Values.{cornersFrom}
-use Rattle.holes.proofs.Clears.{corner-fits, corner-more, corners-all}
+use Rattle.records.specs.Values.{corners_from}
+use Rattle.holes.proofs.Clears.{corner_fits, corner_more, corners_all}
 use borrow.Author.Rules.{rules}
 use Rattle.holes.proofs.clear.drop_corners.Statement.{statement}
 use Rattle.holes.proofs.clear.drop_corners.Tie as tie
 
 abbrev invariant-loop : tie.invariant-loop
-invariant-loop work₀ at rem n j₀ work j = Filled work₀ (at + 3) (λ k. dropped rem (get_or (cornersFrom work₀ at) k 0)) n work j
+invariant-loop work₀ at rem n j₀ work j = Filled work₀ (at + 3) (λ k. dropped rem (get_or (corners_from work₀ at) k 0)) n work j
 
 abbrev decreases-loop : tie.decreases-loop
 decreases-loop work₀ at rem n j₀ work j = n - j
 
 -- corner j lies within the buffer
 fits_in : (c : tie.In-loop invariant-loop decreases-loop) → c.before.before.before.before.before.args.at + 3 + c.before.loop.j < length c.before.loop.work
-fits_in c = corner-fits _ c.before.before.before.before.before.requires c.before.before.count-from.ensures c.before.loop.invariant (search rules)
+fits_in c = corner_fits _ c.before.before.before.before.before.requires c.before.before.count-from.ensures c.before.loop.invariant (search rules)
 
 count-from-requires : tie.Need-count-from-requires invariant-loop decreases-loop
 count-from-requires c κs = search rules
@@ -61,13 +61,13 @@ loop-less c = search rules
 loop-again : tie.Need-loop-preserved invariant-loop decreases-loop
 loop-again c =
     let k = c.before.before in
-    corner-more _ k.before.before.before.before.before.requires k.before.before.count-from.ensures k.before.loop.invariant (search rules) c.dropped.ensures
+    corner_more _ k.before.before.before.before.before.requires k.before.before.count-from.ensures k.before.loop.invariant (search rules) c.dropped.ensures
 
 same_length : tie.Need-same-length invariant-loop decreases-loop
 same_length c = search rules
 
 returns : tie.Need-returns invariant-loop decreases-loop
-returns c = corners-all _ c.before.before.before.before.before.requires c.before.before.count-from.ensures c.before.loop.invariant (search rules)
+returns c = corners_all _ c.before.before.before.before.before.requires c.before.before.count-from.ensures c.before.loop.invariant (search rules)
 
 pub drop-corners-spec : {M : Type 1} → statement M
 drop-corners-spec =

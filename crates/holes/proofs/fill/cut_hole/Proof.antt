@@ -3,10 +3,10 @@ use mathlib.Core.Path.{◌≡◌, ap, ◌∙◌}
 use native.Mathlib.Omega.{arith}
 use Prim.Native.Nat.{ℕ, ◌+◌, ◌-◌, ◌*◌}
 use lib.ListN.{length}
-use Rattle.mem.specs.Slice.{view, lent-part}
+use Rattle.mem.specs.Slice.{view, lent_part}
 use Rattle.rules.specs.Ears.{triangulate}
 use Rattle.ears.specs.Part.{answer_of, points_of, cut_in}
-use Rattle.holes.proofs.Fills.{cut-laid, cut-places, cut-words}
+use Rattle.holes.proofs.Fills.{cut_laid, cut_places, cut_words_lem}
 use borrow.Author.Rules.{rules}
 use Rattle.holes.proofs.fill.cut_hole.Statement.{statement}
 use Rattle.holes.proofs.fill.cut_hole.Tie as tie
@@ -52,7 +52,7 @@ triangulate-requires : tie.Need-triangulate-requires
 triangulate-requires c κs =
     let s = c.before.before.before.before.before.before in
     let e : s.args.po + (s.args.m * 6 - 6) - s.args.po ≡ s.args.m * 6 - 6 = omega arith in
-    rw e (cut-laid s.requires c.before.before.before.lay-points.ensures)
+    rw e (cut_laid s.requires c.before.before.before.lay-points.ensures)
 
 -- src/fill.rt:41:1
 same_length : tie.Need-same-length
@@ -67,10 +67,10 @@ returns c =
     let x = c.before.before.before.before.before.before.lay-points.new.0 in
     let e : po + (m * 6 - 6) - po ≡ m * 6 - 6 = omega arith in
     let l : length x ≡ length s.args.work.now = c.before.before.before.before.before.before.lay-points.auto.0 in
-    let p = cut-places s.requires c.before.before.before.before.before.before.lay-points.ensures in (
+    let p = cut_places s.requires c.before.before.before.before.before.before.lay-points.ensures in (
       c.before.before.triangulate.ensures.0 ∙ ap (λ (k : ℕ). answer_of (triangulate (points_of m (view x po k)))) e ∙ rw p,
-      cut-words s.requires c.before.before.before.before.before.before.lay-points.ensures
-          (lent-part (λ (t : List ℕ). cut_in m t (triangulate (points_of m t))) x c.before.before.triangulate.new.0 po (m * 6 - 6) _ e c.before.before.triangulate.ensures.1 c.before.before.triangulate.auto.0
+      cut_words_lem s.requires c.before.before.before.before.before.before.lay-points.ensures
+          (lent_part (λ (t : List ℕ). cut_in m t (triangulate (points_of m t))) x c.before.before.triangulate.new.0 po (m * 6 - 6) _ e c.before.before.triangulate.ensures.1 c.before.before.triangulate.auto.0
           (omega (arith, s.requires.room))),
     )
 

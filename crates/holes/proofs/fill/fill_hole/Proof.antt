@@ -1,8 +1,8 @@
 -- `holes::fill::fill_hole` meets its contract: the hole's words are filled with zeros, once its polygons are made or where it has no ear. Assumes nothing.
 use mathlib.Core.Path.{refl}
-use Rattle.holes.specs.Fill.{filledOf}
-use Rattle.holes.specs.Places.{was-done, was-stuck}
-use Rattle.holes.proofs.Patches.{fill-ready, fill-answer, fill-over, stuck-words}
+use Rattle.holes.specs.Fill.{filled_of}
+use Rattle.holes.specs.Places.{was_done, was_stuck}
+use Rattle.holes.proofs.Patches.{fill_ready, fill_answer, fill_over, stuck_words}
 use borrow.Author.Rules.{rules}
 use Rattle.holes.proofs.fill.fill_hole.Statement.{statement}
 use Rattle.holes.proofs.fill.fill_hole.Tie as tie
@@ -28,8 +28,8 @@ mesh-hole-requires : tie.Need-mesh-hole-requires
 mesh-hole-requires c κs =
     let s = c.before.before.before.before.before.before.before.before.before in
     let h = c.before.before.before.before.before.before.cut-hole in
-    let x = was-done _ _ (rw c.before.before.k.given.1 at h.ensures.0) in
-    fill-ready s.requires h.ensures.1 x.ts x.is x.count
+    let x = was_done _ _ (rw c.before.before.k.given.1 at h.ensures.0) in
+    fill_ready s.requires h.ensures.1 x.ts x.is x.count
 
 -- src/fill.rt:160:18
 mul-fill : tie.Need-overflow-mul-fill
@@ -52,10 +52,10 @@ returns : tie.Need-returns
 returns c =
     let s = c.before.before.before.before.before.before.before.before.before.before.before.before.before.before.before.before in
     let h = c.before.before.before.before.before.before.before.before.before.before.before.before.before.cut-hole in
-    let x = was-done _ _ (rw c.before.before.before.before.before.before.before.before.before.k.given.1 at h.ensures.0) in
+    let x = was_done _ _ (rw c.before.before.before.before.before.before.before.before.before.k.given.1 at h.ensures.0) in
     let g = c.before.before.before.before.before.before.mesh-hole.ensures in (
-      fill-answer s.requires h.ensures.1 x.ts x.is x.count g.meshed,
-      fill-over s.requires h.ensures.1 x.ts x.is x.count g.meshed g.is c.before.before.fill.ensures,
+      fill_answer s.requires h.ensures.1 x.ts x.is x.count g.meshed,
+      fill_over s.requires h.ensures.1 x.ts x.is x.count g.meshed g.is c.before.before.fill.ensures,
     )
 
 -- src/fill.rt:164:18
@@ -80,12 +80,12 @@ same-length-2 c = search rules
 
 -- src/fill.rt:165:13
 returns-2 : tie.Need-returns-2
-unfolding filledOf
+unfolding filled_of
 returns-2 c =
     let s = c.before.before.before.before.before.before.before.before.before.before.before in
     let h = c.before.before.before.before.before.before.before.before.cut-hole in
-    let x = was-stuck _ _ (rw c.before.before.before.before.enum_told.given.1 at h.ensures.0) in
-    (rw x refl, stuck-words s.requires h.ensures.1 x c.before.before.fill2.ensures)
+    let x = was_stuck _ _ (rw c.before.before.before.before.enum_told.given.1 at h.ensures.0) in
+    (rw x refl, stuck_words s.requires h.ensures.1 x c.before.before.fill2.ensures)
 
 pub fill-hole-spec : {M : Type 1} → statement M
 fill-hole-spec =

@@ -1,4 +1,4 @@
-use Rattle.holes.proofs.Fills.{triangle-made}
+use Rattle.holes.proofs.Fills.{triangle_made}
 use borrow.Author.Rules.{rules}
 use Rattle.holes.proofs.fill.hole_triangle.Statement.{statement}
 use Rattle.holes.proofs.fill.hole_triangle.Tie as tie
@@ -25,7 +25,7 @@ agreed-region-requires c κs = search rules
 
 -- src/fill.rt:44:1
 returns : tie.Need-returns
-returns c = triangle-made _ _ _ _ c.before.before.before.load-point.ensures c.before.before.load-point2.ensures c.before.load-point3.ensures c.agreed-region.ensures
+returns c = triangle_made _ _ _ _ c.before.before.before.load-point.ensures c.before.before.load-point2.ensures c.before.load-point3.ensures c.agreed-region.ensures
 
 pub hole-triangle-spec : {M : Type 1} → statement M
 hole-triangle-spec =

@@ -2,7 +2,7 @@ use lib.ListN.{length-set}
 use native.Mathlib.Omega.{arith}
 use Prim.Native.Nat.{◌-◌}
 use Rattle.mem.specs.Packed.{laid_none}
-use Rattle.holes.proofs.Fills.{Laying, lay-placed, lay-named, lay-more, lay-all}
+use Rattle.holes.proofs.Fills.{Laying, lay_placed, lay_named, lay_more, lay_all}
 use borrow.Author.Rules.{rules}
 use Rattle.holes.proofs.fill.lay_points.Statement.{statement}
 use Rattle.holes.proofs.fill.lay_points.Tie as tie
@@ -33,7 +33,7 @@ cast-place-at c = search rules
 place-at-requires : tie.Need-place-at-requires invariant-loop decreases-loop
 place-at-requires c κs =
     let s = c.before.before.before.before.before.before.before in
-    (lay-placed s.requires c.before.before.before.before.before.loop.invariant, lay-named s.requires c.before.before.before.before.before.loop.invariant c.before.before.before.before.loop-test.true c.before.before.load-point.ensures)
+    (lay_placed s.requires c.before.before.before.before.before.loop.invariant, lay_named s.requires c.before.before.before.before.before.loop.invariant c.before.before.before.before.loop-test.true c.before.before.load-point.ensures)
 
 -- src/fill.rt:30:28
 cast-work : tie.Need-overflow-cast-work invariant-loop decreases-loop
@@ -89,7 +89,7 @@ loop-less c = search rules
 
 -- src/fill.rt:27:5
 loop-again : tie.Need-loop-preserved invariant-loop decreases-loop
-loop-again c = lay-more c.before.before.before.before.before.before.before.before.before.before.requires c.before.before.before.before.before.before.before.before.loop.invariant c.before.before.before.before.before.before.before.loop-test.true c.before.before.before.before.before.load-point.ensures c.before.before.place_at.ensures.0
+loop-again c = lay_more c.before.before.before.before.before.before.before.before.before.before.requires c.before.before.before.before.before.before.before.before.loop.invariant c.before.before.before.before.before.before.before.loop-test.true c.before.before.before.before.before.load-point.ensures c.before.before.place_at.ensures.0
 
 -- src/fill.rt:22:1
 same_length : tie.Need-same-length invariant-loop decreases-loop
@@ -97,7 +97,7 @@ same_length c = search rules
 
 -- src/fill.rt:22:1
 returns : tie.Need-returns invariant-loop decreases-loop
-returns c = lay-all c.before.before.before.requires c.before.loop.invariant c.loop-test.false
+returns c = lay_all c.before.before.before.requires c.before.loop.invariant c.loop-test.false
 
 pub lay-points-spec : {M : Type 1} → statement M
 lay-points-spec =

@@ -1,4 +1,4 @@
-use Rattle.holes.proofs.Fills.{mesh-ready, meshed-over}
+use Rattle.holes.proofs.Fills.{mesh_ready, meshed_over}
 use borrow.Author.Rules.{rules}
 use Rattle.holes.proofs.fill.mesh_hole.Statement.{statement}
 use Rattle.holes.proofs.fill.mesh_hole.Tie as tie
@@ -13,7 +13,7 @@ shape-triangles-requires c κs = search rules
 
 -- src/fill.rt:125:5
 merge-polys-requires : tie.Need-merge-polys-requires
-merge-polys-requires c κs = mesh-ready c.before.before.before.before.before.before.requires c.before.before.before.shape-triangles.ensures
+merge-polys-requires c κs = mesh_ready c.before.before.before.before.before.before.requires c.before.before.before.shape-triangles.ensures
 
 -- src/fill.rt:110:1
 same_length : tie.Need-same-length
@@ -24,7 +24,7 @@ returns : tie.Need-returns
 returns c =
     let m = c.before.before in
     let e = m.before.before.before.before in
-    meshed-over e.before.before.before.requires e.shape-triangles.ensures m.merge-polys.ensures
+    meshed_over e.before.before.before.requires e.shape-triangles.ensures m.merge-polys.ensures
 
 pub mesh-hole-spec : {M : Type 1} → statement M
 mesh-hole-spec =

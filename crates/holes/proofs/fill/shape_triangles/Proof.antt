@@ -2,7 +2,7 @@ use native.Mathlib.Omega.{arith}
 use Prim.Native.Nat.{◌-◌}
 use mathlib.Core.Path.{refl}
 use Rattle.mem.specs.Packed.{laid_none}
-use Rattle.holes.proofs.Fills.{Shaping, first-within, second-within, third-within, shape-more, shape-fits, shape-all}
+use Rattle.holes.proofs.Fills.{Shaping, first_within, second_within, third_within, shape_more, shape_fits, shape_all}
 use borrow.Author.Rules.{rules}
 use Rattle.holes.proofs.fill.shape_triangles.Statement.{statement}
 use Rattle.holes.proofs.fill.shape_triangles.Tie as tie
@@ -39,7 +39,7 @@ slice-reshared-read-hole-triangle c = search rules
 
 -- src/fill.rt:84:13
 cast-hole-triangle : tie.Need-overflow-cast-hole-triangle invariant-loop decreases-loop
-cast-hole-triangle c = record { fits = omega (arith, first-within c.before.before.before.before.requires c.before.before.loop.invariant c.before.loop-test.true, c.before.before.before.before.ranges.m.fits) }
+cast-hole-triangle c = record { fits = omega (arith, first_within c.before.before.before.before.requires c.before.before.loop.invariant c.before.loop-test.true, c.before.before.before.before.ranges.m.fits) }
 
 -- src/fill.rt:85:18
 add-hole-triangle : tie.Need-overflow-add-hole-triangle invariant-loop decreases-loop
@@ -55,7 +55,7 @@ slice-reshared-read-hole-triangle-2 c = search rules
 
 -- src/fill.rt:85:13
 cast-hole-triangle-2 : tie.Need-overflow-cast-hole-triangle-2 invariant-loop decreases-loop
-cast-hole-triangle-2 c = record { fits = omega (arith, second-within c.before.before.before.before.requires c.before.before.loop.invariant c.before.loop-test.true, c.before.before.before.before.ranges.m.fits) }
+cast-hole-triangle-2 c = record { fits = omega (arith, second_within c.before.before.before.before.requires c.before.before.loop.invariant c.before.loop-test.true, c.before.before.before.before.ranges.m.fits) }
 
 -- src/fill.rt:86:18
 add-hole-triangle-2 : tie.Need-overflow-add-hole-triangle-2 invariant-loop decreases-loop
@@ -71,7 +71,7 @@ slice-reshared-read-hole-triangle-3 c = search rules
 
 -- src/fill.rt:86:13
 cast-hole-triangle-3 : tie.Need-overflow-cast-hole-triangle-3 invariant-loop decreases-loop
-cast-hole-triangle-3 c = record { fits = omega (arith, third-within c.before.before.before.before.requires c.before.before.loop.invariant c.before.loop-test.true, c.before.before.before.before.ranges.m.fits) }
+cast-hole-triangle-3 c = record { fits = omega (arith, third_within c.before.before.before.before.requires c.before.before.loop.invariant c.before.loop-test.true, c.before.before.before.before.ranges.m.fits) }
 
 -- src/fill.rt:80:13
 hole-triangle-requires : tie.Need-hole-triangle-requires invariant-loop decreases-loop
@@ -79,7 +79,7 @@ hole-triangle-requires c κs =
     let s = c.before.before.before.before in
     let v = c.before.before.loop.invariant in
     let h = c.before.loop-test.true in
-    (shape-fits s.requires v, first-within s.requires v h, second-within s.requires v h, third-within s.requires v h)
+    (shape_fits s.requires v, first_within s.requires v h, second_within s.requires v h, third_within s.requires v h)
 
 -- src/fill.rt:88:31
 mul-store-poly : tie.Need-overflow-mul-store-poly invariant-loop decreases-loop
@@ -103,7 +103,7 @@ loop-less c = search rules
 
 -- src/fill.rt:78:5
 loop-again : tie.Need-loop-preserved invariant-loop decreases-loop
-loop-again c = shape-more c.before.before.before.before.before.before.before.before.before.requires c.before.before.before.before.before.before.before.loop.invariant c.before.before.before.before.before.before.loop-test.true refl refl refl c.before.before.before.before.hole-triangle.ensures c.before.before.store-poly.ensures
+loop-again c = shape_more c.before.before.before.before.before.before.before.before.before.requires c.before.before.before.before.before.before.before.loop.invariant c.before.before.before.before.before.before.loop-test.true refl refl refl c.before.before.before.before.hole-triangle.ensures c.before.before.store-poly.ensures
 
 -- src/fill.rt:73:1
 same_length : tie.Need-same-length invariant-loop decreases-loop
@@ -111,7 +111,7 @@ same_length c = search rules
 
 -- src/fill.rt:73:1
 returns : tie.Need-returns invariant-loop decreases-loop
-returns c = shape-all c.before.before.before.requires c.before.loop.invariant c.loop-test.false
+returns c = shape_all c.before.before.before.requires c.before.loop.invariant c.loop-test.false
 
 pub shape-triangles-spec : {M : Type 1} → statement M
 shape-triangles-spec =

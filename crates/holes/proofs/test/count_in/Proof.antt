@@ -7,7 +7,7 @@ use borrow.Author.Rules.{rules}
 use lib.ListN.{length, take}
 use lib.Seq.{take_all}
 use Rattle.rules.specs.Lists.{count}
-use Rattle.holes.proofs.Pushes.{count-hit, count-miss}
+use Rattle.holes.proofs.Pushes.{count_hit, count_miss}
 use Rattle.holes.proofs.test.count_in.Statement.{statement}
 use Rattle.holes.proofs.test.count_in.Tie as tie
 
@@ -44,8 +44,8 @@ loop-again c =
       search rules,
       ⊎_elim (λ w. omega arith) (λ w. omega arith) c.if1.branch,
       ⊎_elim
-          (λ w. omega (arith, count-hit g.v g.s.now at.i h (search rules)))
-          (λ w. omega (arith, count-miss g.v g.s.now at.i h (search rules)))
+          (λ w. omega (arith, count_hit g.v g.s.now at.i h (search rules)))
+          (λ w. omega (arith, count_miss g.v g.s.now at.i h (search rules)))
           c.if1.branch,
     )
 

@@ -3,7 +3,7 @@ use Prim.Native.Nat.{◌+◌, ◌-◌}
 use native.Mathlib.Omega.{arith}
 use mathlib.Core.Path.{◌≡◌}
 use borrow.Author.Rules.{rules}
-use Rattle.holes.proofs.Pushes.{few-tested}
+use Rattle.holes.proofs.Pushes.{few_tested}
 use Rattle.holes.proofs.test.few_open.Statement.{statement}
 use Rattle.holes.proofs.test.few_open.Tie as tie
 
@@ -41,7 +41,7 @@ returns c =
     let s = m.before.before.before.before.before.before.before.before.before in
     let g = s.args in
     let e : g.q + p.result.n - g.q ≡ p.result.n = omega arith in
-    few-tested g.o g.np g.q g.rem (g.q + p.result.n - g.q) s.requires p.ensures e m.met-once.ensures
+    few_tested g.o g.np g.q g.rem (g.q + p.result.n - g.q) s.requires p.ensures e m.met-once.ensures
     c.before.before.before.fill.ensures
 
 pub few-open-spec : {M : Type 1} → statement M

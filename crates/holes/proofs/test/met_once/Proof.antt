@@ -5,20 +5,20 @@ use mathlib.Core.Logic.{⊎_elim}
 use mathlib.Core.Path.{◌≡◌}
 use borrow.Author.Rules.{rules}
 use lib.ListN.{length}
-use Rattle.mem.specs.Loops.{over, over-end}
-use Rattle.rules.specs.Removal.{metOnce}
-use Rattle.holes.proofs.Pushes.{once, once-hit, once-miss}
+use Rattle.mem.specs.Loops.{over, over_end}
+use Rattle.rules.specs.Removal.{met_once}
+use Rattle.holes.proofs.Pushes.{once, once_hit, once_miss}
 use Rattle.holes.proofs.test.met_once.Statement.{statement}
 use Rattle.holes.proofs.test.met_once.Tie as tie
 
 abbrev invariant-loop : tie.invariant-loop
-invariant-loop s c₀ i₀ c i = (i ≤ length s) × (c ≤ i) × (metOnce s ≡ c + over 0 ◌+◌ (once s) i (length s))
+invariant-loop s c₀ i₀ c i = (i ≤ length s) × (c ≤ i) × (met_once s ≡ c + over 0 ◌+◌ (once s) i (length s))
 
 abbrev decreases-loop : tie.decreases-loop
 decreases-loop s c₀ i₀ c i = length s - i
 
 loop-holds : tie.Need-loop-init invariant-loop decreases-loop
-unfolding metOnce
+unfolding met_once
 loop-holds c = (search rules, search rules, omega arith)
 
 mul-count-in : tie.Need-overflow-mul-count-in invariant-loop decreases-loop
@@ -48,8 +48,8 @@ loop-again c =
       search rules,
       ⊎_elim (λ w. omega arith) (λ w. omega arith) c.if1.branch,
       ⊎_elim
-          (λ w. omega (arith, at.invariant.2, once-hit s at.i h (search rules)))
-          (λ w. omega (arith, at.invariant.2, once-miss s at.i h (search rules)))
+          (λ w. omega (arith, at.invariant.2, once_hit s at.i h (search rules)))
+          (λ w. omega (arith, at.invariant.2, once_miss s at.i h (search rules)))
           c.if1.branch,
     )
 
@@ -57,7 +57,7 @@ returns : tie.Need-returns invariant-loop decreases-loop
 returns c =
     let at = c.before.loop in
     let s = c.before.before.before.args.s.now in
-    omega (arith, at.invariant.2, over-end 0 ◌+◌ (once s) at.i (length s) (omega arith))
+    omega (arith, at.invariant.2, over_end 0 ◌+◌ (once s) at.i (length s) (omega arith))
 
 pub met-once-spec : {M : Type 1} → statement M
 met-once-spec =

@@ -2,7 +2,7 @@
 -- Assumes nothing.
 use native.Mathlib.Omega.{arith}
 use borrow.Author.Rules.{rules}
-use Rattle.holes.proofs.Verdicts.{few-sides, walked_all}
+use Rattle.holes.proofs.Verdicts.{few_sides, walked_all}
 use Rattle.holes.proofs.test.sides_used.Statement.{statement}
 use Rattle.holes.proofs.test.sides_used.Tie as tie
 
@@ -21,7 +21,7 @@ same_length c = search rules
 returns : tie.Need-returns
 returns c =
     let n = c.before.before.before.before.before.before.before in
-    few-sides n.before.before.before.requires n.collect-sides.ensures (omega (arith, c.before.before.before.before.if1.true))
+    few_sides n.before.before.before.requires n.collect-sides.ensures (omega (arith, c.before.before.before.before.if1.true))
     c.before.before.fill.ensures
 
 mul-e : tie.Need-overflow-mul-e

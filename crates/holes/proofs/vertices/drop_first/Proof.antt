@@ -1,6 +1,6 @@
 -- `holes::vertices::drop_first` meets its contract: the words behind the first vertex move down, and zeros stand behind them. Assumes nothing.
 use mathlib.Core.Path.{refl}
-use Rattle.holes.proofs.Clears.{first-dropped}
+use Rattle.holes.proofs.Clears.{first_dropped}
 use borrow.Author.Rules.{rules}
 use Rattle.holes.proofs.vertices.drop_first.Statement.{statement}
 use Rattle.holes.proofs.vertices.drop_first.Tie as tie
@@ -29,7 +29,7 @@ same_length c = search rules
 returns : tie.Need-returns
 returns c =
     let s = c.before.before.before.before.before.before.before.before.before in
-    first-dropped s.args.part.now refl s.requires c.before.before.before.before.before.before.move_down.ensures c.before.before.fill.ensures
+    first_dropped s.args.part.now refl s.requires c.before.before.before.before.before.before.move_down.ensures c.before.before.fill.ensures
 
 pub drop-first-spec : {M : Type 1} → statement M
 drop-first-spec =

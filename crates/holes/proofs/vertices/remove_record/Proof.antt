@@ -3,9 +3,9 @@ use mathlib.Core.Path.{◌≡◌}
 use native.Mathlib.Omega.{arith}
 use Prim.Native.Nat.{ℕ, ◌+◌, ◌-◌, ◌*◌}
 use lib.ListN.{drop, replicate}
-use Rattle.mem.specs.Slice.{lent-part}
-use Rattle.records.specs.Layout.{vertexSize}
-use Rattle.holes.proofs.Clears.{record-gone}
+use Rattle.mem.specs.Slice.{lent_part}
+use Rattle.records.specs.Layout.{vertex_size}
+use Rattle.holes.proofs.Clears.{record_gone}
 use borrow.Author.Rules.{rules}
 use Rattle.holes.proofs.vertices.remove_record.Statement.{statement}
 use Rattle.holes.proofs.vertices.remove_record.Tie as tie
@@ -57,11 +57,11 @@ same_length c = search rules
 returns : tie.Need-returns
 returns c =
     let s = c.before.before.before.before.before in
-    let a = s.args.vo + s.args.i * vertexSize in
-    let m = (s.args.nv - s.args.i) * vertexSize in
-    let e : s.args.vo + s.args.nv * vertexSize - a ≡ m = omega (arith, s.requires.1) in
-    record-gone s.args.i s.requires.0 s.requires.1
-    (lent-part (λ (l : List ℕ). drop vertexSize l ++ replicate vertexSize 0) s.args.work.now c.before.before.drop-first.new.0 a m _ e c.before.before.drop-first.ensures c.before.before.drop-first.auto.0
+    let a = s.args.vo + s.args.i * vertex_size in
+    let m = (s.args.nv - s.args.i) * vertex_size in
+    let e : s.args.vo + s.args.nv * vertex_size - a ≡ m = omega (arith, s.requires.1) in
+    record_gone s.args.i s.requires.0 s.requires.1
+    (lent_part (λ (l : List ℕ). drop vertex_size l ++ replicate vertex_size 0) s.args.work.now c.before.before.drop-first.new.0 a m _ e c.before.before.drop-first.ensures c.before.before.drop-first.auto.0
     (omega (arith, s.requires.0.fits, s.requires.1)))
 
 pub remove-record-spec : {M : Type 1} → statement M

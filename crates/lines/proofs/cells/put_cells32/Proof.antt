@@ -4,7 +4,7 @@ use native.Mathlib.Omega.{arith}
 use lib.ListN.{length, get_or}
 use Rattle.mem.specs.Packed.{packed}
 use Rattle.rules.specs.Lines.{cell}
-use Rattle.lines.specs.Pieces.{Pieces, pieces_none, pieces_room, pieces_more, pieces-all, packed-over}
+use Rattle.lines.specs.Pieces.{Pieces, pieces_none, pieces_room, pieces_more, pieces_all, packed_over}
 use borrow.Author.Rules.{rules}
 use Rattle.lines.proofs.cells.put_cells32.Statement.{statement}
 use Rattle.lines.proofs.cells.put_cells32.Tie as tie
@@ -16,7 +16,7 @@ abbrev decreases-loop : tie.decreases-loop
 decreases-loop out₀ at ns to₀ i₀ out to i = length ns - i
 
 loop-holds : tie.Need-loop-init invariant-loop decreases-loop
-loop-holds c = pieces_none _ _ (packed-over cell 0 c.before.before.args.ns.now) c.before.before.requires
+loop-holds c = pieces_none _ _ (packed_over cell 0 c.before.before.args.ns.now) c.before.before.requires
 
 mul-put-cell : tie.Need-overflow-mul-put-cell invariant-loop decreases-loop
 mul-put-cell c = search rules
@@ -43,7 +43,7 @@ same_length : tie.Need-same-length invariant-loop decreases-loop
 same_length c = search rules
 
 returns : tie.Need-returns invariant-loop decreases-loop
-returns c = pieces-all c.before.loop.invariant c.loop-test.false
+returns c = pieces_all c.before.loop.invariant c.loop-test.false
 
 pub put-cells32-spec : {M : Type 1} → statement M
 put-cells32-spec =

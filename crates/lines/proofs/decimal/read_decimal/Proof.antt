@@ -6,7 +6,7 @@ use Prim.Native.Nat.{◌-◌}
 use native.Mathlib.Omega.{arith}
 use lib.ListN.{length}
 use borrow.Author.Rules.{rules}
-use Rattle.lines.proofs.Decimals.{Reading, no-digits, leading-zero, reading-zero, reading-begin, below-digits, above-digits, reading-other, reading-large, reading-next, reading-below, reading-value}
+use Rattle.lines.proofs.Decimals.{Reading, no_digits, leading_zero, reading_zero, reading_begin, below_digits, above_digits, reading_other, reading_large, reading_next, reading_below, reading_value}
 use Rattle.lines.proofs.decimal.read_decimal.Statement.{statement}
 use Rattle.lines.proofs.decimal.read_decimal.Tie as tie
 
@@ -17,33 +17,33 @@ abbrev decreases-loop : tie.decreases-loop
 decreases-loop cell least most v₀ i₀ v i = length cell - i
 
 returns : tie.Need-returns invariant-loop decreases-loop
-returns c = sym (no-digits c.before.args.least c.before.args.most c.before.args.cell.now c.if1.true)
+returns c = sym (no_digits c.before.args.least c.before.args.most c.before.args.cell.now c.if1.true)
 
 shared-slice-read-if2 : tie.Need-shared-slice-read-if2 invariant-loop decreases-loop
 shared-slice-read-if2 c = search rules
 
 returns-2 : tie.Need-returns-2 invariant-loop decreases-loop
-returns-2 c = sym (leading-zero c.before.before.before.before.args.least c.before.before.before.before.args.most c.before.before.before.before.args.cell.now c.before.if2.true (omega arith))
+returns-2 c = sym (leading_zero c.before.before.before.before.args.least c.before.before.before.before.args.most c.before.before.before.before.args.cell.now c.before.if2.true (omega arith))
 
 loop-holds : tie.Need-loop-init invariant-loop decreases-loop
 loop-holds c =
     let a = c.before.before.before.args in
     ⊎_elim
-    (λ x. reading-zero a.least a.most a.cell.now c.before.before.if1.false x.1.left)
-    (λ x. reading-begin a.least a.most a.cell.now c.before.before.if1.false x.left)
+    (λ x. reading_zero a.least a.most a.cell.now c.before.before.if1.false x.1.left)
+    (λ x. reading_begin a.least a.most a.cell.now c.before.before.if1.false x.left)
     c.if2.branch
 
 shared-slice-read-if4 : tie.Need-shared-slice-read-if4 invariant-loop decreases-loop
 shared-slice-read-if4 c = search rules
 
 returns-3 : tie.Need-returns-3 invariant-loop decreases-loop
-returns-3 c = sym (reading-other c.before.before.before.loop.invariant c.before.before.loop-test.true (below-digits _ c.if4.true))
+returns-3 c = sym (reading_other c.before.before.before.loop.invariant c.before.before.loop-test.true (below_digits _ c.if4.true))
 
 shared-slice-read-if5 : tie.Need-shared-slice-read-if5 invariant-loop decreases-loop
 shared-slice-read-if5 c = search rules
 
 returns-4 : tie.Need-returns-4 invariant-loop decreases-loop
-returns-4 c = sym (reading-other c.before.before.before.before.before.loop.invariant c.before.before.before.before.loop-test.true (above-digits _ c.if5.true))
+returns-4 c = sym (reading_other c.before.before.before.before.before.loop.invariant c.before.before.before.before.loop-test.true (above_digits _ c.if5.true))
 
 shared-slice-read-d : tie.Need-shared-slice-read-d invariant-loop decreases-loop
 shared-slice-read-d c = search rules
@@ -55,7 +55,7 @@ cast-d : tie.Need-overflow-cast-d invariant-loop decreases-loop
 cast-d c = search rules
 
 returns-5 : tie.Need-returns-5 invariant-loop decreases-loop
-returns-5 c = sym (reading-large c.before.before.before.before.before.before.before.loop.invariant c.before.before.before.before.before.before.loop-test.true c.before.before.before.before.if4.false c.before.before.if5.false (omega arith))
+returns-5 c = sym (reading_large c.before.before.before.before.before.before.before.loop.invariant c.before.before.before.before.before.before.loop-test.true c.before.before.before.before.if4.false c.before.before.if5.false (omega arith))
 
 mul-if7 : tie.Need-overflow-mul-if7 invariant-loop decreases-loop
 mul-if7 c = search rules
@@ -64,7 +64,7 @@ sub-if7 : tie.Need-overflow-sub-if7 invariant-loop decreases-loop
 sub-if7 c = search rules
 
 returns-6 : tie.Need-returns-6 invariant-loop decreases-loop
-returns-6 c = sym (reading-large c.before.before.before.before.before.before.before.before.loop.invariant c.before.before.before.before.before.before.before.loop-test.true c.before.before.before.before.before.if4.false c.before.before.before.if5.false (omega arith))
+returns-6 c = sym (reading_large c.before.before.before.before.before.before.before.before.loop.invariant c.before.before.before.before.before.before.before.loop-test.true c.before.before.before.before.before.if4.false c.before.before.before.if5.false (omega arith))
 
 mul-v : tie.Need-overflow-mul-v invariant-loop decreases-loop
 mul-v c = search rules
@@ -79,13 +79,13 @@ loop-less : tie.Need-loop-smaller invariant-loop decreases-loop
 loop-less c = search rules
 
 loop-again : tie.Need-loop-preserved invariant-loop decreases-loop
-loop-again c = reading-next c.before.before.before.before.before.before.before.before.loop.invariant c.before.before.before.before.before.before.before.loop-test.true c.before.before.before.before.before.if4.false c.before.before.before.if5.false (omega arith)
+loop-again c = reading_next c.before.before.before.before.before.before.before.before.loop.invariant c.before.before.before.before.before.before.before.loop-test.true c.before.before.before.before.before.if4.false c.before.before.before.if5.false (omega arith)
 
 returns-7 : tie.Need-returns-7 invariant-loop decreases-loop
-returns-7 c = sym (reading-below c.before.before.loop.invariant c.before.loop-test.false (omega arith))
+returns-7 c = sym (reading_below c.before.before.loop.invariant c.before.loop-test.false (omega arith))
 
 returns-8 : tie.Need-returns-8 invariant-loop decreases-loop
-returns-8 c = sym (reading-value c.before.before.loop.invariant c.before.loop-test.false (omega arith))
+returns-8 c = sym (reading_value c.before.before.loop.invariant c.before.loop-test.false (omega arith))
 
 pub read-decimal-spec : {M : Type 1} → statement M
 read-decimal-spec =

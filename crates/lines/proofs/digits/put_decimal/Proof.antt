@@ -4,8 +4,8 @@ use Prim.Native.Nat.{◌+◌}
 use native.Mathlib.Omega.{arith}
 use lib.ListN.{length-set}
 use Rattle.rules.specs.Lines.{decimal}
-use Rattle.lines.specs.Printing.{printed-as}
-use Rattle.lines.proofs.Places.{Left, left-all, left-place, left-more, left_end}
+use Rattle.lines.specs.Printing.{printed_as}
+use Rattle.lines.proofs.Places.{Left, left_all, left_place, left_more, left_end}
 use borrow.Author.Rules.{rules}
 use Rattle.lines.proofs.digits.put_decimal.Statement.{statement}
 use Rattle.lines.proofs.digits.put_decimal.Tie as tie
@@ -17,7 +17,7 @@ abbrev decreases-loop : tie.decreases-loop
 decreases-loop out at n digits₀ first₀ rest₀ digits first rest = rest
 
 loop-holds : tie.Need-loop-init invariant-loop decreases-loop
-loop-holds c = left-all _ _ refl (search rules)
+loop-holds c = left_all _ _ refl (search rules)
 
 cast-digits : tie.Need-overflow-cast-digits invariant-loop decreases-loop
 cast-digits c = search rules
@@ -29,13 +29,13 @@ array-write-digits : tie.Need-array-write-digits invariant-loop decreases-loop
 array-write-digits c = search rules
 
 sub-first : tie.Need-overflow-sub-first invariant-loop decreases-loop
-sub-first c = left-place c.before.loop.invariant (omega arith)
+sub-first c = left_place c.before.loop.invariant (omega arith)
 
 loop-less : tie.Need-loop-smaller invariant-loop decreases-loop
 loop-less c = search rules
 
 loop-again : tie.Need-loop-preserved invariant-loop decreases-loop
-loop-again c = left-more c.before.loop.invariant _ (omega arith) refl
+loop-again c = left_more c.before.loop.invariant _ (omega arith) refl
 
 cast-digits-2 : tie.Need-overflow-cast-digits-2 invariant-loop decreases-loop
 cast-digits-2 c = search rules
@@ -62,7 +62,7 @@ same_length : tie.Need-same-length invariant-loop decreases-loop
 same_length c = search rules
 
 returns : tie.Need-returns invariant-loop decreases-loop
-returns c = printed-as c.before.before.put-text.ensures (left_end c.before.before.before.before.before.before.before.loop.invariant _ (omega arith) refl)
+returns c = printed_as c.before.before.put-text.ensures (left_end c.before.before.before.before.before.before.before.loop.invariant _ (omega arith) refl)
 
 pub put-decimal-spec : {M : Type 1} → statement M
 put-decimal-spec =

@@ -1,7 +1,7 @@
 -- `lines::line::read_line` meets its contract: the line's numbers are those up to its LF, and without an LF there are none. Assumes nothing.
 use native.Mathlib.Omega.{arith}
 use borrow.Author.Rules.{rules}
-use Rattle.lines.proofs.LineAt.{line-good, line-bad, line-none}
+use Rattle.lines.proofs.LineAt.{line_good, line_bad, line_none}
 use Rattle.lines.proofs.line.read_line.Statement.{statement}
 use Rattle.lines.proofs.line.read_line.Tie as tie
 
@@ -26,17 +26,17 @@ add-t15 c = search rules
 returns : tie.Need-returns
 returns c =
     let a = c.before.before.before.before.before.before.before.before.args in
-    line-good a.text.now a.at c.before.before.before.before.find.ensures.0 a.name.now a.least a.mosts.now (omega arith) c.before.read-numbers.ensures c.if2.true
+    line_good a.text.now a.at c.before.before.before.before.find.ensures.0 a.name.now a.least a.mosts.now (omega arith) c.before.read-numbers.ensures c.if2.true
 
 returns-2 : tie.Need-returns-2
 returns-2 c =
     let a = c.before.before.before.before.before.before.before.before.args in
-    line-bad a.text.now a.at c.before.before.before.before.find.ensures.0 a.name.now a.least a.mosts.now (omega arith) c.before.read-numbers.ensures c.if2.false
+    line_bad a.text.now a.at c.before.before.before.before.find.ensures.0 a.name.now a.least a.mosts.now (omega arith) c.before.read-numbers.ensures c.if2.false
 
 returns-3 : tie.Need-returns-3
 returns-3 c =
     let a = c.before.before.before.before.before.args in
-    line-none a.text.now a.at c.before.find.ensures.0 a.name.now a.least a.mosts.now (omega arith)
+    line_none a.text.now a.at c.before.find.ensures.0 a.name.now a.least a.mosts.now (omega arith)
 
 pub read-line-spec : {M : Type 1} → statement M
 read-line-spec =

@@ -5,7 +5,7 @@ use Prim.Native.Nat.{◌-◌}
 use native.Mathlib.Omega.{arith}
 use lib.ListN.{length}
 use lib.Seq.{length-take-le}
-use Rattle.lines.proofs.Numbering.{Numbering, other_name, numbering-begin, numbering-short, numbering-bad, numbering-next, numbering-end}
+use Rattle.lines.proofs.Numbering.{Numbering, other_name, numbering_begin, numbering_short, numbering_bad, numbering_next, numbering_end}
 use borrow.Author.Rules.{rules}
 use Rattle.lines.proofs.numbers.read_row.Statement.{statement}
 use Rattle.lines.proofs.numbers.read_row.Tie as tie
@@ -30,14 +30,14 @@ loop-holds c =
     let m = c.before.before.before in
     let s = m.before.before.before.before.before in
     let a = s.args in
-    numbering-begin a.line.now a.name.now a.least a.mosts.now a.values.now m.find.ensures.0 c.before.is-same-text.ensures
+    numbering_begin a.line.now a.name.now a.least a.mosts.now a.values.now m.find.ensures.0 c.before.is-same-text.ensures
     c.if1.true m.find.ensures.1
 
 same_length : tie.Need-same-length invariant-loop decreases-loop
 same_length c = search rules
 
 returns : tie.Need-returns invariant-loop decreases-loop
-returns c = let at_turn = c.before.before in numbering-short at_turn.loop.invariant c.before.loop-test.true c.if2.true
+returns c = let at_turn = c.before.before in numbering_short at_turn.loop.invariant c.before.loop-test.true c.if2.true
 
 add-from : tie.Need-overflow-add-from invariant-loop decreases-loop
 add-from c = search rules
@@ -76,7 +76,7 @@ returns-2 c =
     let at-if2 = at-find.before in
     let at-loop-test = at-if2.before in
     let at_turn = at-loop-test.before in
-    numbering-bad at_turn.loop.invariant at-loop-test.loop-test.true at-if2.if2.false at-find.find2.ensures.0
+    numbering_bad at_turn.loop.invariant at-loop-test.loop-test.true at-if2.if2.false at-find.find2.ensures.0
     at-read-decimal.read-decimal.ensures c.enum_told.given.1
 
 enum-known-v : tie.Need-enum-known-v invariant-loop decreases-loop
@@ -101,14 +101,14 @@ loop-again c =
     let at-if2 = at-find.before in
     let at-loop-test = at-if2.before in
     let at_turn = at-loop-test.before in
-    numbering-next at_turn.loop.invariant at-loop-test.loop-test.true at-if2.if2.false at-find.find2.ensures.0
+    numbering_next at_turn.loop.invariant at-loop-test.loop-test.true at-if2.if2.false at-find.find2.ensures.0
     at-read-decimal.read-decimal.ensures c.before.v.given.1 at-find.find2.ensures.1
 
 same-length-3 : tie.Need-same-length-3 invariant-loop decreases-loop
 same-length-3 c = search rules
 
 returns-3 : tie.Need-returns-3 invariant-loop decreases-loop
-returns-3 c = numbering-end c.before.loop.invariant c.loop-test.false
+returns-3 c = numbering_end c.before.loop.invariant c.loop-test.false
 
 returns-4 : tie.Need-returns-4 invariant-loop decreases-loop
 returns-4 c =

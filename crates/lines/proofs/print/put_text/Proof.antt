@@ -7,7 +7,7 @@ use native.Mathlib.Omega.{arith}
 use lib.ListN.{length, get_or}
 use lib.Seq.{take_all}
 use Rattle.mem.specs.Slice.{splice}
-use Rattle.mem.specs.Tab.{Filled, filled_none, filled_more, filled-all, tab-take}
+use Rattle.mem.specs.Tab.{Filled, filled_none, filled_more, filled_all, tab_take}
 use Rattle.lines.specs.Print.{Printed}
 use borrow.Author.Rules.{rules}
 use Rattle.lines.proofs.print.put_text.Statement.{statement}
@@ -18,7 +18,7 @@ copied : {text v w : List ℕ} {at i : ℕ} → Filled v at (λ k. get_or text k
 copied {text} {v} {w} {at} {i} r h =
     let n = length text in
     record {
-      text = filled-all r h ∙ ap (splice v at) (tab-take text n 0 (le_refl n) ∙ take_all n text (le_refl n));
+      text = filled_all r h ∙ ap (splice v at) (tab_take text n 0 (le_refl n) ∙ take_all n text (le_refl n));
       next = omega (arith, r.within);
     }
 

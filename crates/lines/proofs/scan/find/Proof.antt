@@ -2,7 +2,7 @@
 use Prim.Native.Nat.{◌-◌}
 use lib.ListN.{length}
 use borrow.Author.Rules.{rules}
-use Rattle.lines.proofs.Scanning.{Seeking, seek-begin, seek-next, seek_hit, seek-end}
+use Rattle.lines.proofs.Scanning.{Seeking, seek_begin, seek_next, seek_hit, seek_end}
 use Rattle.lines.proofs.scan.find.Statement.{statement}
 use Rattle.lines.proofs.scan.find.Tie as tie
 
@@ -13,7 +13,7 @@ abbrev decreases-loop : tie.decreases-loop
 decreases-loop text from b i₀ i = length text - i
 
 loop-holds : tie.Need-loop-init invariant-loop decreases-loop
-loop-holds c = seek-begin c.args.b c.args.text.now c.args.from (search rules)
+loop-holds c = seek_begin c.args.b c.args.text.now c.args.from (search rules)
 
 shared-slice-read-if1 : tie.Need-shared-slice-read-if1 invariant-loop decreases-loop
 shared-slice-read-if1 c = search rules
@@ -25,10 +25,10 @@ loop-less : tie.Need-loop-smaller invariant-loop decreases-loop
 loop-less c = search rules
 
 loop-again : tie.Need-loop-preserved invariant-loop decreases-loop
-loop-again c = seek-next c.before.before.before.loop.invariant c.before.before.loop-test.true c.if1.false
+loop-again c = seek_next c.before.before.before.loop.invariant c.before.before.loop-test.true c.if1.false
 
 returns : tie.Need-returns invariant-loop decreases-loop
-returns c = seek-end c.before.loop.invariant c.loop-test.false
+returns c = seek_end c.before.loop.invariant c.loop-test.false
 
 returns-2 : tie.Need-returns-2 invariant-loop decreases-loop
 returns-2 c = seek_hit c.before.before.before.loop.invariant c.before.before.loop-test.true c.if1.true

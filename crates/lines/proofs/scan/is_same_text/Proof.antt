@@ -4,7 +4,7 @@ use Prim.Native.Nat.{◌-◌}
 use native.Mathlib.Omega.{arith}
 use lib.ListN.{length}
 use borrow.Author.Rules.{rules}
-use Rattle.lines.proofs.Scanning.{Alike, alike-begin, unlike-long, alike_next, unlike-here, alike_end}
+use Rattle.lines.proofs.Scanning.{Alike, alike_begin, unlike_long, alike_next, unlike_here, alike_end}
 use Rattle.lines.proofs.scan.is_same_text.Statement.{statement}
 use Rattle.lines.proofs.scan.is_same_text.Tie as tie
 
@@ -15,10 +15,10 @@ abbrev decreases-loop : tie.decreases-loop
 decreases-loop a b i₀ i = length a - i
 
 returns : tie.Need-returns invariant-loop decreases-loop
-returns c = sym (unlike-long c.before.args.a.now c.before.args.b.now (omega arith))
+returns c = sym (unlike_long c.before.args.a.now c.before.args.b.now (omega arith))
 
 loop-holds : tie.Need-loop-init invariant-loop decreases-loop
-loop-holds c = alike-begin c.before.args.a.now c.before.args.b.now (omega arith)
+loop-holds c = alike_begin c.before.args.a.now c.before.args.b.now (omega arith)
 
 shared-slice-read-if2 : tie.Need-shared-slice-read-if2 invariant-loop decreases-loop
 shared-slice-read-if2 c = search rules
@@ -27,7 +27,7 @@ shared-slice-read-if2-2 : tie.Need-shared-slice-read-if2-2 invariant-loop decrea
 shared-slice-read-if2-2 c = search rules
 
 returns-2 : tie.Need-returns-2 invariant-loop decreases-loop
-returns-2 c = sym (unlike-here c.before.before.before.before.loop.invariant c.before.before.before.loop-test.true c.if2.true)
+returns-2 c = sym (unlike_here c.before.before.before.before.loop.invariant c.before.before.before.loop-test.true c.if2.true)
 
 add-i : tie.Need-overflow-add-i invariant-loop decreases-loop
 add-i c = search rules

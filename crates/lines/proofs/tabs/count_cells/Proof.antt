@@ -2,7 +2,7 @@
 -- Assumes nothing.
 use Prim.Native.Nat.{◌-◌}
 use lib.ListN.{length}
-use Rattle.lines.proofs.Counting.{Counting, counting-begin, counting-next, counting-end}
+use Rattle.lines.proofs.Counting.{Counting, counting_begin, counting_next, counting_end}
 use borrow.Author.Rules.{rules}
 use Rattle.lines.proofs.tabs.count_cells.Statement.{statement}
 use Rattle.lines.proofs.tabs.count_cells.Tie as tie
@@ -17,7 +17,7 @@ find-requires : tie.Need-find-requires invariant-loop decreases-loop
 find-requires c κs = search rules
 
 loop-holds : tie.Need-loop-init invariant-loop decreases-loop
-loop-holds c = counting-begin c.before.before.args.line.now c.find.ensures.0 c.find.ensures.1
+loop-holds c = counting_begin c.before.before.args.line.now c.find.ensures.0 c.find.ensures.1
 
 add-n : tie.Need-overflow-add-n invariant-loop decreases-loop
 add-n c = search rules
@@ -32,10 +32,10 @@ loop-less : tie.Need-loop-smaller invariant-loop decreases-loop
 loop-less c = search rules
 
 loop-again : tie.Need-loop-preserved invariant-loop decreases-loop
-loop-again c = counting-next c.before.before.loop.invariant c.before.loop-test.true c.find2.ensures.0 c.find2.ensures.1
+loop-again c = counting_next c.before.before.loop.invariant c.before.loop-test.true c.find2.ensures.0 c.find2.ensures.1
 
 returns : tie.Need-returns invariant-loop decreases-loop
-returns c = counting-end c.before.loop.invariant c.loop-test.false
+returns c = counting_end c.before.loop.invariant c.loop-test.false
 
 pub count-cells-spec : {M : Type 1} → statement M
 count-cells-spec =

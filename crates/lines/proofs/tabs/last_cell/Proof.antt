@@ -2,7 +2,7 @@
 -- Assumes nothing.
 use Prim.Native.Nat.{◌-◌}
 use lib.ListN.{length}
-use Rattle.lines.proofs.Counting.{Passing, passing-begin, passing-next, passing-end}
+use Rattle.lines.proofs.Counting.{Passing, passing_begin, passing_next, passing_end}
 use borrow.Author.Rules.{rules}
 use Rattle.lines.proofs.tabs.last_cell.Statement.{statement}
 use Rattle.lines.proofs.tabs.last_cell.Tie as tie
@@ -17,7 +17,7 @@ find-requires : tie.Need-find-requires invariant-loop decreases-loop
 find-requires c κs = search rules
 
 loop-holds : tie.Need-loop-init invariant-loop decreases-loop
-loop-holds c = passing-begin c.before.before.args.line.now c.find.ensures.0 c.find.ensures.1
+loop-holds c = passing_begin c.before.before.args.line.now c.find.ensures.0 c.find.ensures.1
 
 add-from : tie.Need-overflow-add-from invariant-loop decreases-loop
 add-from c = search rules
@@ -29,10 +29,10 @@ loop-less : tie.Need-loop-smaller invariant-loop decreases-loop
 loop-less c = search rules
 
 loop-again : tie.Need-loop-preserved invariant-loop decreases-loop
-loop-again c = passing-next c.before.before.loop.invariant c.before.loop-test.true c.find2.ensures.0 c.find2.ensures.1
+loop-again c = passing_next c.before.before.loop.invariant c.before.loop-test.true c.find2.ensures.0 c.find2.ensures.1
 
 returns : tie.Need-returns invariant-loop decreases-loop
-returns c = passing-end c.before.loop.invariant c.loop-test.false
+returns c = passing_end c.before.loop.invariant c.loop-test.false
 
 pub last-cell-spec : {M : Type 1} → statement M
 last-cell-spec =

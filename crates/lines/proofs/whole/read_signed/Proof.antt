@@ -5,7 +5,7 @@ use lib.IntN.{pos}
 use lib.ListN.{length, get_or}
 use mir.Syntax.{w64}
 use mir.Val.{SFits}
-use Rattle.lines.proofs.Wholes.{value-fits, turned-fits, minus-bad, minus-value, plain-bad, plain_value}
+use Rattle.lines.proofs.Wholes.{value_fits, turned_fits, minus_bad, minus_value, plain_bad, plain_value}
 use native.Mathlib.Omega.{arith}
 use borrow.Author.Rules.{rules}
 use Rattle.lines.proofs.whole.read_signed.Statement.{statement}
@@ -16,13 +16,13 @@ behind : (c : tie.After-n) → SFits w64 (pos c.n.given.0.0)
 behind c =
     let at-read-decimal = c.before.before in
     let s = at-read-decimal.before.before.before.before.before.before in
-    value-fits 1 s.args.most _ s.requires at-read-decimal.read-decimal.ensures c.n.given.1
+    value_fits 1 s.args.most _ s.requires at-read-decimal.read-decimal.ensures c.n.given.1
 
 alone : (c : tie.After-n2) → SFits w64 (pos c.n2.given.0.0)
 alone c =
     let at-read-decimal2 = c.before.before in
     let s = at-read-decimal2.before.before.before in
-    value-fits 0 s.args.most _ s.requires at-read-decimal2.read-decimal2.ensures c.n2.given.1
+    value_fits 0 s.args.most _ s.requires at-read-decimal2.read-decimal2.ensures c.n2.given.1
 
 -- there is no `-`
 no_minus : (c : tie.Joined1) → 0 < length c.before.before.args.cell.now → get_or c.before.before.args.cell.now 0 0 ≢ 45
@@ -53,7 +53,7 @@ cast-t16 : tie.Need-overflow-cast-t16
 cast-t16 c = behind c.before
 
 sub-t17 : tie.Need-overflow-sub-t17
-sub-t17 c = turned-fits (behind c.before)
+sub-t17 c = turned_fits (behind c.before)
 
 returns : tie.Need-returns
 returns c =
@@ -61,7 +61,7 @@ returns c =
     let at-minus = at_read.before.before in
     let at-if1 = at-minus.before.before in
     let s = at-if1.before.before in
-    minus-bad s.args.most s.args.cell.now at-if1.if1.true at-minus.if2.true at_read.read-decimal.ensures c.enum_told.given.1
+    minus_bad s.args.most s.args.cell.now at-if1.if1.true at-minus.if2.true at_read.read-decimal.ensures c.enum_told.given.1
 
 returns-2 : tie.Need-returns-2
 returns-2 c =
@@ -69,7 +69,7 @@ returns-2 c =
     let at-minus = at_read.before.before in
     let at-if1 = at-minus.before.before in
     let s = at-if1.before.before in
-    minus-value s.args.most s.args.cell.now at-if1.if1.true at-minus.if2.true at_read.read-decimal.ensures c.before.n.given.1
+    minus_value s.args.most s.args.cell.now at-if1.if1.true at-minus.if2.true at_read.read-decimal.ensures c.before.n.given.1
     (behind c.before)
 
 read-decimal-requires-2 : tie.Need-read-decimal-requires-2
@@ -88,7 +88,7 @@ returns-3 : tie.Need-returns-3
 returns-3 c =
     let at_read = c.before.before in
     let s = at_read.before.before.before in
-    plain-bad s.args.most s.args.cell.now (no_minus at_read.before) at_read.read-decimal2.ensures c.enum-told2.given.1
+    plain_bad s.args.most s.args.cell.now (no_minus at_read.before) at_read.read-decimal2.ensures c.enum-told2.given.1
 
 returns-4 : tie.Need-returns-4
 returns-4 c =

@@ -2,7 +2,7 @@
 use mathlib.Core.Path.{◌≡◌, refl}
 use Prim.Native.Nat.{◌-◌}
 use lib.ListN.{length}
-use Rattle.links.proofs.Stores.{Linkable, Linking, linking-begin, linking-ready, linking-more, linking-end, links-ready, links-made}
+use Rattle.links.proofs.Stores.{Linkable, Linking, linking_begin, linking_ready, linking_more, linking_end, links_ready, links_made}
 use borrow.Author.Rules.{rules}
 use Rattle.links.proofs.adjacency.build_mesh_adjacency.Statement.{statement}
 use Rattle.links.proofs.adjacency.build_mesh_adjacency.Tie as tie
@@ -34,12 +34,12 @@ fill-requires c κs = search rules
 loop-holds : tie.Need-loop-init invariant-loop decreases-loop
 loop-holds c =
     let s = c.before.before.before.before.before.before.before.before.before in
-    let l = links-ready s.requires c.before.before.before.before.before.before.link-sides.ensures c.before.before.fill.ensures in
-    (l, linking-begin l, refl)
+    let l = links_ready s.requires c.before.before.before.before.before.before.link-sides.ensures c.before.before.fill.ensures in
+    (l, linking_begin l, refl)
 
 -- src/adjacency.rt:67:9
 store-links-requires : tie.Need-store-links-requires invariant-loop decreases-loop
-store-links-requires c κs = linking-ready c.before.before.loop.invariant.0 _ c.before.before.loop.invariant.1 c.before.loop-test.true
+store-links-requires c κs = linking_ready c.before.before.loop.invariant.0 _ c.before.before.loop.invariant.1 c.before.loop-test.true
 
 -- src/adjacency.rt:68:9
 add-k : tie.Need-overflow-add-k invariant-loop decreases-loop
@@ -52,7 +52,7 @@ loop-less c = search rules
 -- src/adjacency.rt:66:5
 loop-again : tie.Need-loop-preserved invariant-loop decreases-loop
 loop-again c =
-    let g = linking-more c.before.before.before.before.before.loop.invariant.0 _ c.before.before.before.before.before.loop.invariant.1 c.before.before.before.before.loop-test.true c.before.before.store-links.ensures in
+    let g = linking_more c.before.before.before.before.before.loop.invariant.0 _ c.before.before.before.before.before.loop.invariant.1 c.before.before.before.before.loop-test.true c.before.before.store-links.ensures in
     (c.before.before.before.before.before.loop.invariant.0, g, g.size)
 
 -- src/adjacency.rt:52:1
@@ -63,7 +63,7 @@ same_length c = search rules
 returns : tie.Need-returns invariant-loop decreases-loop
 returns c =
     let s = c.before.before.before.before.before.before.before.before.before.before.before in
-    links-made s.requires c.before.before.before.before.before.before.before.before.link-sides.ensures c.before.before.before.before.fill.ensures (linking-end c.before.loop.invariant.0 _ c.before.loop.invariant.1 c.loop-test.false)
+    links_made s.requires c.before.before.before.before.before.before.before.before.link-sides.ensures c.before.before.before.before.fill.ensures (linking_end c.before.loop.invariant.0 _ c.before.loop.invariant.1 c.loop-test.false)
 
 pub build-mesh-adjacency-spec : {M : Type 1} → statement M
 build-mesh-adjacency-spec =

@@ -1,6 +1,6 @@
 -- `links::adjacency::store_links` meets its contract: the two words written are those of `store_words`. Assumes nothing.
 use native.Mathlib.Omega.{arith}
-use Rattle.links.proofs.Stores.{stored-none, stored-both}
+use Rattle.links.proofs.Stores.{stored_none, stored_both}
 use borrow.Author.Rules.{rules}
 use Rattle.links.proofs.adjacency.store_links.Statement.{statement}
 use Rattle.links.proofs.adjacency.store_links.Tie as tie
@@ -19,7 +19,7 @@ same_length c = search rules
 
 -- src/adjacency.rt:45:9
 returns : tie.Need-returns
-returns c = stored-none _ _ c.before.before.load-edge.ensures c.if1.true
+returns c = stored_none _ _ c.before.before.load-edge.ensures c.if1.true
 
 -- src/adjacency.rt:47:5
 set-link-requires : tie.Need-set-link-requires
@@ -35,7 +35,7 @@ same-length-2 c = search rules
 
 -- src/adjacency.rt:39:1
 returns-2 : tie.Need-returns-2
-returns-2 c = stored-both _ _ c.before.before.before.before.before.before.before.before.before.before.load-edge.ensures c.before.before.before.before.before.before.before.before.if1.false c.before.before.before.before.before.before.set_link.ensures c.before.before.set-link2.ensures
+returns-2 c = stored_both _ _ c.before.before.before.before.before.before.before.before.before.before.load-edge.ensures c.before.before.before.before.before.before.before.before.if1.false c.before.before.before.before.before.before.set_link.ensures c.before.before.set-link2.ensures
 
 pub store-links-spec : {M : Type 1} → statement M
 store-links-spec =

@@ -1,6 +1,6 @@
 -- `links::edges::join_edge` meets its contract: a record that is joined keeps its place in the chains. Assumes nothing.
 use mathlib.Core.Path.{◌∙◌}
-use Rattle.links.proofs.Puts.{joined_made, join-steps}
+use Rattle.links.proofs.Puts.{joined_made, join_steps}
 use borrow.Author.Rules.{rules}
 use Rattle.links.proofs.edges.join_edge.Statement.{statement}
 use Rattle.links.proofs.edges.join_edge.Tie as tie
@@ -33,7 +33,7 @@ same_length c = search rules
 returns : tie.Need-returns
 returns c =
     let s = c.before.before.before.before.before.before.before.before in
-    c.before.before.store-edge.ensures ∙ join-steps s.args.work.now s.args.t s.args.nv s.args.ne s.requires.0 s.args.k s.args.i s.args.j s.requires.1 (joined_made s.args.i s.args.j c.before.before.before.before.before.load-edge.ensures)
+    c.before.before.store-edge.ensures ∙ join_steps s.args.work.now s.args.t s.args.nv s.args.ne s.requires.0 s.args.k s.args.i s.args.j s.requires.1 (joined_made s.args.i s.args.j c.before.before.before.before.before.load-edge.ensures)
 
 pub join-edge-spec : {M : Type 1} → statement M
 join-edge-spec =

@@ -1,7 +1,7 @@
 -- `links::edges::put_edge` meets its contract: each of its three writes is the rewriting of one table. Assumes nothing.
 use lib.ListN.{length-set}
 use native.Mathlib.Omega.{arith}
-use Rattle.links.proofs.Puts.{put-steps}
+use Rattle.links.proofs.Puts.{put_steps}
 use borrow.Author.Rules.{rules}
 use Rattle.links.proofs.edges.put_edge.Statement.{statement}
 use Rattle.links.proofs.edges.put_edge.Tie as tie
@@ -73,7 +73,7 @@ same_length c = simp length-set (simp length-set at c.before.before.before.store
 returns : tie.Need-returns
 returns c =
     let s = c.before.before.before.before.before.before.before.before.before.before in
-    put-steps s.args.work.now s.args.t s.args.nv s.args.ne s.requires.0 s.args.e s.requires.1 s.requires.2 c.before.before.before.store-edge.ensures
+    put_steps s.args.work.now s.args.t s.args.nv s.args.ne s.requires.0 s.args.e s.requires.1 s.requires.2 c.before.before.before.store-edge.ensures
 
 pub put-edge-spec : {M : Type 1} → statement M
 put-edge-spec =

@@ -3,11 +3,11 @@ use mathlib.Core.Path.{◌≡◌, refl, ap, ◌∙◌}
 use Prim.Native.Nat.{◌-◌}
 use lib.ListN.{length}
 use Rattle.mem.specs.Slice.{view, splice}
-use Rattle.mem.specs.Tab.{Filled, filled_none, filled_more, filled-all}
-use Rattle.rules.specs.Portals.{portalAt}
-use Rattle.records.specs.Layout.{mostCorners, verticesAt}
-use Rattle.records.specs.Values.{cornersOf}
-use Rattle.links.proofs.Marks.{still-in-hand, portal-same, all-sides}
+use Rattle.mem.specs.Tab.{Filled, filled_none, filled_more, filled_all}
+use Rattle.rules.specs.Portals.{portal_at}
+use Rattle.records.specs.Layout.{most_corners, vertices_at}
+use Rattle.records.specs.Values.{corners_of}
+use Rattle.links.proofs.Marks.{still_in_hand, portal_same, all_sides}
 use borrow.Author.Rules.{rules}
 use Rattle.links.proofs.portals.mark_polygon.Statement.{statement}
 use Rattle.links.proofs.portals.mark_polygon.Tie as tie
@@ -16,13 +16,13 @@ use Rattle.links.proofs.portals.mark_polygon.Lts as lts
 use Rattle.links.proofs.portals.portal_at.Reads as portal-at-reads
 
 abbrev invariant-loop : tie.invariant-loop
-invariant-loop work₀ vo nv p at w h j₀ work j = Filled work₀ at (portalAt (verticesAt work₀ vo nv) w h (cornersOf p) (view work₀ at p.n)) p.n work j
+invariant-loop work₀ vo nv p at w h j₀ work j = Filled work₀ at (portal_at (vertices_at work₀ vo nv) w h (corners_of p) (view work₀ at p.n)) p.n work j
 
 abbrev decreases-loop : tie.decreases-loop
 decreases-loop work₀ vo nv p at w h j₀ work j = p.n - j
 
-long-p : (s : tie.Start invariant-loop decreases-loop) → length s.args.p.corners ≡ mostCorners
-long-p s = search rules
+long_p : (s : tie.Start invariant-loop decreases-loop) → length s.args.p.corners ≡ most_corners
+long_p s = search rules
 
 -- src/portals.rt:86:5
 loop-holds : tie.Need-loop-init invariant-loop decreases-loop
@@ -32,7 +32,7 @@ loop-holds c = filled_none _ _ _ _
 portal-at-requires : tie.Need-portal-at-requires invariant-loop decreases-loop
 portal-at-requires c κs =
     let s = c.before.before.before.before.before in
-    (still-in-hand s.requires s.args.w s.args.h c.before.before.before.loop.invariant, record { below = c.before.if1.true; most = s.requires.most })
+    (still_in_hand s.requires s.args.w s.args.h c.before.before.before.loop.invariant, record { below = c.before.if1.true; most = s.requires.most })
 
 -- src/portals.rt:87:14
 add-work : tie.Need-overflow-add-work invariant-loop decreases-loop
@@ -58,7 +58,7 @@ loop-less c = search rules
 loop-again : tie.Need-loop-preserved invariant-loop decreases-loop
 loop-again c =
     let s = c.before.before.before.before.before.before in
-    filled_more c.before.before.before.before.loop.invariant _ _ refl (portal-same s.requires s.args.w s.args.h c.before.before.before.before.loop.invariant c.before.before.if1.true c.portal-at.ensures) c.before.before.if1.true
+    filled_more c.before.before.before.before.loop.invariant _ _ refl (portal_same s.requires s.args.w s.args.h c.before.before.before.before.loop.invariant c.before.before.if1.true c.portal-at.ensures) c.before.before.if1.true
 
 -- src/portals.rt:81:1
 same_length : tie.Need-same-length invariant-loop decreases-loop
@@ -68,7 +68,7 @@ same_length c = search rules
 returns : tie.Need-returns invariant-loop decreases-loop
 returns c =
     let s = c.before.before.before.before in
-    filled-all c.before.before.loop.invariant c.if1.false ∙ ap (splice s.args.work.now s.args.at) (all-sides s.args.p (long-p s) s.requires.most _ s.args.w s.args.h _)
+    filled_all c.before.before.loop.invariant c.if1.false ∙ ap (splice s.args.work.now s.args.at) (all_sides s.args.p (long_p s) s.requires.most _ s.args.w s.args.h _)
 
 pub mark-polygon-spec : {M : Type 1} → statement M
 mark-polygon-spec =

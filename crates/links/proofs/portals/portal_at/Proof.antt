@@ -1,5 +1,5 @@
 -- `links::portals::portal_at` meets its contract: an open side's link is its portal, another's is what it was. Assumes nothing.
-use Rattle.links.proofs.Marks.{portal-open, portal-linked}
+use Rattle.links.proofs.Marks.{portal_open, portal_linked}
 use borrow.Author.Rules.{rules}
 use Rattle.links.proofs.portals.portal_at.Statement.{statement}
 use Rattle.links.proofs.portals.portal_at.Tie as tie
@@ -27,13 +27,13 @@ side-portal-requires c κs = let s = c.before.before.before in (s.requires.0.pla
 returns : tie.Need-returns
 returns c =
     let s = c.before.before.before.before in
-    portal-open s.args.work.now s.args.at s.args.p.n _ s.args.w s.args.h _ s.args.j s.requires.1.below c.before.if1.true s.requires.0.fits c.side-portal.ensures
+    portal_open s.args.work.now s.args.at s.args.p.n _ s.args.w s.args.h _ s.args.j s.requires.1.below c.before.if1.true s.requires.0.fits c.side-portal.ensures
 
 -- src/portals.rt:60:1
 returns-2 : tie.Need-returns-2
 returns-2 c =
     let s = c.before.before.before in
-    portal-linked s.args.work.now s.args.at s.args.p.n _ s.args.w s.args.h _ s.args.j s.requires.1.below c.if1.false s.requires.0.fits
+    portal_linked s.args.work.now s.args.at s.args.p.n _ s.args.w s.args.h _ s.args.j s.requires.1.below c.if1.false s.requires.0.fits
 
 pub portal-at-spec : {M : Type 1} → statement M
 portal-at-spec =

@@ -4,11 +4,11 @@ use Prim.Native.Nat.{◌-◌}
 use native.Mathlib.Omega.{arith}
 use lib.ListN.{length}
 use Rattle.mem.specs.Loops.{each}
-use Rattle.records.specs.Layout.{mostCorners, edges_at}
-use Rattle.records.specs.Values.{cornersOf}
-use Rattle.records.specs.Polygons.{length-corners}
+use Rattle.records.specs.Layout.{most_corners, edges_at}
+use Rattle.records.specs.Values.{corners_of}
+use Rattle.records.specs.Polygons.{length_corners}
 use Rattle.links.specs.Ready.{join_of}
-use Rattle.links.proofs.Rounds.{Going, going-begin, going-now, going_more, going_end, still-in-hand}
+use Rattle.links.proofs.Rounds.{Going, going_begin, going_now, going_more, going_end, still_in_hand}
 use borrow.Author.Rules.{rules}
 use Rattle.links.proofs.sides.join_polygon.Statement.{statement}
 use Rattle.links.proofs.sides.join_polygon.Tie as tie
@@ -18,23 +18,23 @@ use Rattle.links.proofs.sides.join_side.Reads as join-side-reads
 
 abbrev invariant-loop : tie.invariant-loop
 invariant-loop work₀ t nv ne i p j₀ work j =
-    Going work₀ t nv ne ne (join_of (cornersOf p) i) (each (join_of (cornersOf p) i) 0 (length (cornersOf p)) (edges_at work₀ t.edges ne)) (length (cornersOf p)) work ne j 0
+    Going work₀ t nv ne ne (join_of (corners_of p) i) (each (join_of (corners_of p) i) 0 (length (corners_of p)) (edges_at work₀ t.edges ne)) (length (corners_of p)) work ne j 0
 
 abbrev decreases-loop : tie.decreases-loop
 decreases-loop work₀ t nv ne i p j₀ work j = p.n - j
 
-long-p : (s : tie.Start invariant-loop decreases-loop) → length s.args.p.corners ≡ mostCorners
-long-p s = search rules
+long_p : (s : tie.Start invariant-loop decreases-loop) → length s.args.p.corners ≡ most_corners
+long_p s = search rules
 
 -- src/sides.rt:130:5
 loop-holds : tie.Need-loop-init invariant-loop decreases-loop
-loop-holds c = let s = c.before in going-begin s.args.work.now s.args.t s.args.nv s.args.ne _ _ _ 0 s.requires.0.now (omega arith)
+loop-holds c = let s = c.before in going_begin s.args.work.now s.args.t s.args.nv s.args.ne _ _ _ 0 s.requires.0.now (omega arith)
 
 -- src/sides.rt:131:9
 join-side-requires : tie.Need-join-side-requires invariant-loop decreases-loop
 join-side-requires c κs =
     let s = c.before.before.before.before.before in
-    (still-in-hand s.requires.0 (going-now s.args.work.now s.args.t s.args.nv s.args.ne _ _ _ s.requires.0.now.room _ c.before.before.before.loop.invariant), record { below = c.before.if1.true; most = s.requires.1 })
+    (still_in_hand s.requires.0 (going_now s.args.work.now s.args.t s.args.nv s.args.ne _ _ _ s.requires.0.now.room _ c.before.before.before.loop.invariant), record { below = c.before.if1.true; most = s.requires.1 })
 
 -- src/sides.rt:132:9
 add-j : tie.Need-overflow-add-j invariant-loop decreases-loop
@@ -48,7 +48,7 @@ loop-less c = search rules
 loop-again : tie.Need-loop-preserved invariant-loop decreases-loop
 loop-again c =
     let s = c.before.before.before.before.before.before.before.before in
-    let n = length-corners s.args.p (long-p s) s.requires.1 in
+    let n = length_corners s.args.p (long_p s) s.requires.1 in
     going_more s.args.work.now s.args.t s.args.nv s.args.ne _ _ _ s.requires.0.now.room _ c.before.before.before.before.before.before.loop.invariant _ 0 0 _ (omega (arith, n, c.before.before.before.before.if1.true)) refl c.before.before.join-side.ensures (omega arith)
 
 -- src/sides.rt:125:1
@@ -59,7 +59,7 @@ same_length c = search rules
 returns : tie.Need-returns invariant-loop decreases-loop
 returns c =
     let s = c.before.before.before.before in
-    let n = length-corners s.args.p (long-p s) s.requires.1 in
+    let n = length_corners s.args.p (long_p s) s.requires.1 in
     going_end s.args.work.now s.args.t s.args.nv s.args.ne _ _ _ s.requires.0.now.room _ c.before.before.loop.invariant 0 (omega (arith, n, c.if1.false)) (omega arith)
 
 pub join-polygon-spec : {M : Type 1} → statement M

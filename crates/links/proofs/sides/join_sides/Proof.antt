@@ -2,10 +2,10 @@
 use Prim.Native.Nat.{◌-◌}
 use native.Mathlib.Omega.{arith}
 use Rattle.mem.specs.Loops.{each}
-use Rattle.records.specs.Layout.{edges_at, polygonsAt}
-use Rattle.records.specs.Polygons.{length-polygons}
-use Rattle.links.proofs.Rounds.{Going, going-begin, going-now, going-kept, going_more, going_end}
-use Rattle.links.proofs.Rounds.{joinAll, joins-all, small-here, hand-here, join-here}
+use Rattle.records.specs.Layout.{edges_at, polygons_at}
+use Rattle.records.specs.Polygons.{length_polygons}
+use Rattle.links.proofs.Rounds.{Going, going_begin, going_now, going_kept, going_more, going_end}
+use Rattle.links.proofs.Rounds.{join_all, joins_all, small_here, hand_here, join_here}
 use borrow.Author.Rules.{rules}
 use Rattle.links.proofs.sides.join_sides.Statement.{statement}
 use Rattle.links.proofs.sides.join_sides.Tie as tie
@@ -16,22 +16,22 @@ use Rattle.records.proofs.polygon.load_at.Reads as load-at-reads
 
 abbrev invariant-loop : tie.invariant-loop
 invariant-loop work₀ o np nv t ne i₀ work i =
-    Going work₀ t nv ne ne (joinAll (polygonsAt work₀ o np)) (each (joinAll (polygonsAt work₀ o np)) 0 np (edges_at work₀ t.edges ne)) np work ne i 0
+    Going work₀ t nv ne ne (join_all (polygons_at work₀ o np)) (each (join_all (polygons_at work₀ o np)) 0 np (edges_at work₀ t.edges ne)) np work ne i 0
 
 abbrev decreases-loop : tie.decreases-loop
 decreases-loop work₀ o np nv t ne i₀ work i = np - i
 
 -- src/sides.rt:142:5
 loop-holds : tie.Need-loop-init invariant-loop decreases-loop
-loop-holds c = let s = c.before in going-begin s.args.work.now s.args.t s.args.nv s.args.ne _ _ _ 0 s.requires.1 (omega arith)
+loop-holds c = let s = c.before in going_begin s.args.work.now s.args.t s.args.nv s.args.ne _ _ _ 0 s.requires.1 (omega arith)
 
 -- src/sides.rt:143:13
 load-at-requires : tie.Need-load-at-requires invariant-loop decreases-loop
 load-at-requires c κs =
     let s = c.before.before.before.before in
     let g = c.before.before.loop.invariant in
-    let k = going-kept s.args.work.now s.args.t s.args.nv s.args.ne _ _ _ s.requires.1.room _ g s.args.o s.args.np s.requires.0.fits in
-    (omega (arith, g.size, s.requires.0.fits, s.requires.1.room.firsts, s.requires.1.room.edges, s.requires.1.room.nexts), c.before.loop-test.true, small-here s.requires.0 _ k _ c.before.loop-test.true)
+    let k = going_kept s.args.work.now s.args.t s.args.nv s.args.ne _ _ _ s.requires.1.room _ g s.args.o s.args.np s.requires.0.fits in
+    (omega (arith, g.size, s.requires.0.fits, s.requires.1.room.firsts, s.requires.1.room.edges, s.requires.1.room.nexts), c.before.loop-test.true, small_here s.requires.0 _ k _ c.before.loop-test.true)
 
 -- src/sides.rt:144:9
 join-polygon-requires : tie.Need-join-polygon-requires invariant-loop decreases-loop
@@ -40,8 +40,8 @@ join-polygon-requires c κs =
     let g = c.before.before.before.before.loop.invariant in
     let h = c.before.before.before.loop-test.true in
     let lp = c.before.load_at.ensures in
-    let k = going-kept s.args.work.now s.args.t s.args.nv s.args.ne _ _ _ s.requires.1.room _ g s.args.o s.args.np s.requires.0.fits in
-    (hand-here s.requires.0 _ k _ h lp (going-now s.args.work.now s.args.t s.args.nv s.args.ne _ _ _ s.requires.1.room _ g), lp.most)
+    let k = going_kept s.args.work.now s.args.t s.args.nv s.args.ne _ _ _ s.requires.1.room _ g s.args.o s.args.np s.requires.0.fits in
+    (hand_here s.requires.0 _ k _ h lp (going_now s.args.work.now s.args.t s.args.nv s.args.ne _ _ _ s.requires.1.room _ g), lp.most)
 
 -- src/sides.rt:145:9
 add-i : tie.Need-overflow-add-i invariant-loop decreases-loop
@@ -57,8 +57,8 @@ loop-again c =
     let s = c.before.before.before.before.before.before.before.before.before in
     let g = c.before.before.before.before.before.before.before.loop.invariant in
     let h = c.before.before.before.before.before.before.loop-test.true in
-    let k = going-kept s.args.work.now s.args.t s.args.nv s.args.ne _ _ _ s.requires.1.room _ g s.args.o s.args.np s.requires.0.fits in
-    going_more s.args.work.now s.args.t s.args.nv s.args.ne _ _ _ s.requires.1.room _ g _ 0 0 _ h (join-here s.requires.0 _ k _ h c.before.before.before.before.load_at.ensures _) c.before.before.join-polygon.ensures (omega arith)
+    let k = going_kept s.args.work.now s.args.t s.args.nv s.args.ne _ _ _ s.requires.1.room _ g s.args.o s.args.np s.requires.0.fits in
+    going_more s.args.work.now s.args.t s.args.nv s.args.ne _ _ _ s.requires.1.room _ g _ 0 0 _ h (join_here s.requires.0 _ k _ h c.before.before.before.before.load_at.ensures _) c.before.before.join-polygon.ensures (omega arith)
 
 -- src/sides.rt:137:1
 same_length : tie.Need-same-length invariant-loop decreases-loop
@@ -68,8 +68,8 @@ same_length c = search rules
 returns : tie.Need-returns invariant-loop decreases-loop
 returns c =
     let s = c.before.before.before in
-    let e = length-polygons s.args.work.now s.args.o s.args.np in
-    rw (joins-all (polygonsAt s.args.work.now s.args.o s.args.np) s.args.np (edges_at s.args.work.now s.args.t.edges s.args.ne) e)
+    let e = length_polygons s.args.work.now s.args.o s.args.np in
+    rw (joins_all (polygons_at s.args.work.now s.args.o s.args.np) s.args.np (edges_at s.args.work.now s.args.t.edges s.args.ne) e)
     (going_end s.args.work.now s.args.t s.args.nv s.args.ne _ _ _ s.requires.1.room _ c.before.loop.invariant 0 c.loop-test.false (omega arith))
 
 pub join-sides-spec : {M : Type 1} → statement M

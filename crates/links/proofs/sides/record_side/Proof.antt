@@ -1,8 +1,8 @@
 -- `links::sides::record_side` meets its contract: a side that runs from a lower to a higher vertex is one record more. Assumes nothing.
 use mathlib.Core.Path.{◌≡◌}
-use Rattle.records.specs.Layout.{mostCorners}
+use Rattle.records.specs.Layout.{most_corners}
 use lib.ListN.{length}
-use Rattle.links.proofs.Rounds.{start-in, recorded, unrecorded}
+use Rattle.links.proofs.Rounds.{start_in, recorded, unrecorded}
 use borrow.Author.Rules.{rules}
 use Rattle.links.proofs.sides.record_side.Statement.{statement}
 use Rattle.links.proofs.sides.record_side.Tie as tie
@@ -12,8 +12,8 @@ use Rattle.links.proofs.edges.put_edge.Reads as put-edge-reads
 use Rattle.records.proofs.polygon.corner.Reads as corner-reads
 use Rattle.records.proofs.polygon.side_end.Reads as side-end-reads
 
-long-p : (s : tie.Start) → length s.args.p.corners ≡ mostCorners
-long-p s = search rules
+long_p : (s : tie.Start) → length s.args.p.corners ≡ most_corners
+long_p s = search rules
 
 -- src/sides.rt:36:9
 corner-requires : tie.Need-corner-requires
@@ -37,7 +37,7 @@ cast-t14 c = search rules
 
 -- src/sides.rt:47:9
 put-edge-requires : tie.Need-put-edge-requires
-put-edge-requires c κs = let s = c.before.before.before.before.before in (s.requires.0.now, s.requires.1, start-in s.requires.0 (search rules) s.args.j s.requires.2 c.before.before.before.corner.ensures)
+put-edge-requires c κs = let s = c.before.before.before.before.before in (s.requires.0.now, s.requires.1, start_in s.requires.0 (search rules) s.args.j s.requires.2 c.before.before.before.corner.ensures)
 
 -- src/sides.rt:48:16
 add-result : tie.Need-overflow-add-result
@@ -51,11 +51,11 @@ same_length c = search rules
 returns : tie.Need-returns
 returns c =
     let s = c.before.before.before.before.before.before.before.before in
-    recorded s.requires.0 (long-p s) s.args.j s.requires.2 c.before.before.before.before.before.before.corner.ensures c.before.before.before.before.before.side-end.ensures c.before.before.before.before.if1.true c.before.before.put-edge.ensures
+    recorded s.requires.0 (long_p s) s.args.j s.requires.2 c.before.before.before.before.before.before.corner.ensures c.before.before.before.before.before.side-end.ensures c.before.before.before.before.if1.true c.before.before.put-edge.ensures
 
 -- src/sides.rt:24:1
 returns-2 : tie.Need-returns-2
-returns-2 c = let s = c.before.before.before.before in unrecorded s.requires.0 (long-p s) s.args.j s.requires.2 c.before.before.corner.ensures c.before.side-end.ensures c.if1.false
+returns-2 c = let s = c.before.before.before.before in unrecorded s.requires.0 (long_p s) s.args.j s.requires.2 c.before.before.corner.ensures c.before.side-end.ensures c.if1.false
 
 pub record-side-spec : {M : Type 1} → statement M
 record-side-spec =

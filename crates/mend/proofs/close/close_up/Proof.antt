@@ -4,7 +4,7 @@ use native.Mathlib.Omega.{arith}
 use Prim.Native.Nat.{◌+◌, ◌≤◌}
 use Prim.Native.Nat.{◌-◌}
 use lib.ListN.{length}
-use Rattle.mend.proofs.Closing.{Closing, closing-begin, closing-both, closing-more, closing_end}
+use Rattle.mend.proofs.Closing.{Closing, closing_begin, closing_both, closing_more, closing_end}
 use borrow.Author.Rules.{rules}
 use Rattle.mend.proofs.close.close_up.Statement.{statement}
 use Rattle.mend.proofs.close.close_up.Tie as tie
@@ -22,7 +22,7 @@ decreases-loop numbers₀ kept to i₀ numbers i = length kept - i
 loop-holds : tie.Need-loop-init invariant-loop decreases-loop
 loop-holds c =
     let start = c.before.before in
-    closing-begin start.args.numbers.now start.args.kept.now start.args.to
+    closing_begin start.args.numbers.now start.args.kept.now start.args.to
 
 link-at-requires : tie.Need-link-at-requires invariant-loop decreases-loop
 link-at-requires c κs = search rules
@@ -32,7 +32,7 @@ add-move-vertex c =
     let at-loop-test = c.before.before in
     let at-loop = at-loop-test.before in
     let start = at-loop.before.before.before in
-    let b = (closing-both start.requires at-loop.loop.invariant at-loop-test.loop-test.true c.link_at.ensures).other in
+    let b = (closing_both start.requires at-loop.loop.invariant at-loop-test.loop-test.true c.link_at.ensures).other in
     let h : start.args.to + at-loop.loop.i ≤ length start.args.numbers.now = omega (arith, b, at-loop.loop.invariant.long) in
     search rules
 
@@ -41,7 +41,7 @@ move-vertex-requires c κs =
     let at-loop-test = c.before.before in
     let at-loop = at-loop-test.before in
     let start = at-loop.before.before.before in
-    closing-both start.requires at-loop.loop.invariant at-loop-test.loop-test.true c.link_at.ensures
+    closing_both start.requires at-loop.loop.invariant at-loop-test.loop-test.true c.link_at.ensures
 
 add-i : tie.Need-overflow-add-i invariant-loop decreases-loop
 add-i c = search rules
@@ -56,7 +56,7 @@ loop-again c =
     let at-loop-test = at-link-at.before.before in
     let at-loop = at-loop-test.before in
     let start = at-loop.before.before.before in
-    closing-more start.requires at-loop.loop.invariant at-loop-test.loop-test.true at-link-at.link_at.ensures at-move-vertex.move-vertex.ensures
+    closing_more start.requires at-loop.loop.invariant at-loop-test.loop-test.true at-link-at.link_at.ensures at-move-vertex.move-vertex.ensures
 
 same_length : tie.Need-same-length invariant-loop decreases-loop
 same_length c = search rules

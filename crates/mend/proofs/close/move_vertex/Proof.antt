@@ -1,7 +1,7 @@
 -- `mend::close::move_vertex` meets its contract: four numbers are read, and then written. Assumes nothing.
 use native.Mathlib.Omega.{arith}
 use lib.ListN.{length-set}
-use Rattle.mem.specs.Slice.{setEach}
+use Rattle.mem.specs.Slice.{set_each}
 use Rattle.mend.proofs.Closing.{moved}
 use borrow.Author.Rules.{rules}
 use Rattle.mend.proofs.close.move_vertex.Statement.{statement}
@@ -91,7 +91,7 @@ same_length : tie.Need-same-length
 same_length c = search rules
 
 returns : tie.Need-returns
-unfolding setEach
+unfolding set_each
 returns c =
     let start = c.before.before.before.before in
     moved start.args.numbers.now start.args.from start.args.to

@@ -3,7 +3,7 @@
 use native.Mathlib.Omega.{arith}
 use Prim.Native.Nat.{◌-◌}
 use lib.ListN.{length}
-use Rattle.mend.proofs.Counting.{Counting, counting-begin, counting-ready, counting_more, counting-end}
+use Rattle.mend.proofs.Counting.{Counting, counting_begin, counting_ready, counting_more, counting_end}
 use borrow.Author.Rules.{rules}
 use Rattle.mend.proofs.contours.count_lost.Statement.{statement}
 use Rattle.mend.proofs.contours.count_lost.Tie as tie
@@ -21,7 +21,7 @@ decreases-loop lengths numbers₀ list₀ work₀ first₀ lost₀ c₀ numbers 
 loop-holds : tie.Need-loop-init invariant-loop decreases-loop
 loop-holds c =
     let start = c.before.before.before.before in
-    counting-begin start.args.lengths.now start.args.numbers.now start.args.list.now start.args.work.now
+    counting_begin start.args.lengths.now start.args.numbers.now start.args.list.now start.args.work.now
 
 link-at-requires : tie.Need-link-at-requires invariant-loop decreases-loop
 link-at-requires c κs = search rules
@@ -32,7 +32,7 @@ walk-requires c κs =
     let at-loop-test = at-link-at.before in
     let at-loop = at-loop-test.before in
     let start = at-loop.before.before.before.before.before in
-    counting-ready start.requires at-loop.loop.invariant at-loop-test.loop-test.true at-link-at.link_at.ensures
+    counting_ready start.requires at-loop.loop.invariant at-loop-test.loop-test.true at-link-at.link_at.ensures
 
 add-first : tie.Need-overflow-add-first invariant-loop decreases-loop
 add-first c =
@@ -40,7 +40,7 @@ add-first c =
     let at-loop-test = at-link-at.before in
     let at-loop = at-loop-test.before in
     let start = at-loop.before.before.before.before.before in
-    let w = counting-ready start.requires at-loop.loop.invariant at-loop-test.loop-test.true at-link-at.link_at.ensures in
+    let w = counting_ready start.requires at-loop.loop.invariant at-loop-test.loop-test.true at-link-at.link_at.ensures in
     record { fits = omega (arith, w.small) }
 
 add-c : tie.Need-overflow-add-c invariant-loop decreases-loop
@@ -68,7 +68,7 @@ same-length-3 : tie.Need-same-length-3 invariant-loop decreases-loop
 same-length-3 c = search rules
 
 returns : tie.Need-returns invariant-loop decreases-loop
-returns c = counting-end c.before.loop.invariant c.loop-test.false
+returns c = counting_end c.before.loop.invariant c.loop-test.false
 
 pub count-lost-spec : {M : Type 1} → statement M
 count-lost-spec =

@@ -1,10 +1,10 @@
 -- `mend::contours::mend_all` meets its contract: the loop's invariant is `MendingAll`: the contours that are done stand in front, the others are as they
 -- were. The measure is how many are left. Assumes nothing.
 use native.Mathlib.Omega.{arith}
-use Rattle.mend.proofs.MendingAll.{mending-small}
+use Rattle.mend.proofs.MendingAll.{mending_small}
 use Prim.Native.Nat.{◌-◌}
 use lib.ListN.{length}
-use Rattle.mend.proofs.MendingAll.{MendingAll, mending-begin, mending-ready, mending-more, mending-end}
+use Rattle.mend.proofs.MendingAll.{MendingAll, mending_begin, mending_ready, mending_more, mending_end}
 use borrow.Author.Rules.{rules}
 use Rattle.mend.proofs.contours.mend_all.Statement.{statement}
 use Rattle.mend.proofs.contours.mend_all.Tie as tie
@@ -23,7 +23,7 @@ decreases-loop lengths₀ numbers₀ list₀ work₀ all₀ first₀ c₀ length
 loop-holds : tie.Need-loop-init invariant-loop decreases-loop
 loop-holds c =
     let start = c.before.before.before.before in
-    mending-begin start.args.lengths.now start.args.numbers.now start.args.list.now start.args.work.now
+    mending_begin start.args.lengths.now start.args.numbers.now start.args.list.now start.args.work.now
 
 link-at-requires : tie.Need-link-at-requires invariant-loop decreases-loop
 link-at-requires c κs = search rules
@@ -34,7 +34,7 @@ mend-contour-requires c κs =
     let at-loop-test = at-link-at.before.before in
     let at-loop = at-loop-test.before in
     let start = at-loop.before.before.before.before.before in
-    mending-ready start.requires at-loop.loop.invariant at-loop-test.loop-test.true at-link-at.link_at.ensures
+    mending_ready start.requires at-loop.loop.invariant at-loop-test.loop-test.true at-link-at.link_at.ensures
 
 cast-lengths : tie.Need-overflow-cast-lengths invariant-loop decreases-loop
 cast-lengths c =
@@ -43,7 +43,7 @@ cast-lengths c =
     let at-loop-test = at-link-at.before.before in
     let at-loop = at-loop-test.before in
     let start = at-loop.before.before.before.before.before in
-    let w = mending-small start.requires at-loop.loop.invariant at-loop-test.loop-test.true at-link-at.link_at.ensures
+    let w = mending_small start.requires at-loop.loop.invariant at-loop-test.loop-test.true at-link-at.link_at.ensures
     at-mend-contour.mend-contour.ensures in
     record { fits = omega (arith, w) }
 
@@ -60,7 +60,7 @@ add-t10 c =
     let at-loop-test = at-link-at.before.before in
     let at-loop = at-loop-test.before in
     let start = at-loop.before.before.before.before.before in
-    let w = mending-small start.requires at-loop.loop.invariant at-loop-test.loop-test.true at-link-at.link_at.ensures
+    let w = mending_small start.requires at-loop.loop.invariant at-loop-test.loop-test.true at-link-at.link_at.ensures
     at-mend-contour.mend-contour.ensures in
     record { fits = omega (arith, w) }
 
@@ -70,7 +70,7 @@ add-first c =
     let at-loop-test = at-link-at.before.before in
     let at-loop = at-loop-test.before in
     let start = at-loop.before.before.before.before.before in
-    let w = mending-ready start.requires at-loop.loop.invariant at-loop-test.loop-test.true at-link-at.link_at.ensures in
+    let w = mending_ready start.requires at-loop.loop.invariant at-loop-test.loop-test.true at-link-at.link_at.ensures in
     record { fits = omega (arith, w.walk.small) }
 
 add-c : tie.Need-overflow-add-c invariant-loop decreases-loop
@@ -86,7 +86,7 @@ loop-again c =
     let at-loop-test = at-link-at.before.before in
     let at-loop = at-loop-test.before in
     let start = at-loop.before.before.before.before.before in
-    mending-more start.requires at-loop.loop.invariant at-loop-test.loop-test.true at-link-at.link_at.ensures at-mend-contour.mend-contour.ensures
+    mending_more start.requires at-loop.loop.invariant at-loop-test.loop-test.true at-link-at.link_at.ensures at-mend-contour.mend-contour.ensures
 
 same_length : tie.Need-same-length invariant-loop decreases-loop
 same_length c = search rules
@@ -101,7 +101,7 @@ same-length-4 : tie.Need-same-length-4 invariant-loop decreases-loop
 same-length-4 c = search rules
 
 returns : tie.Need-returns invariant-loop decreases-loop
-returns c = mending-end c.before.loop.invariant c.loop-test.false
+returns c = mending_end c.before.loop.invariant c.loop-test.false
 
 pub mend-all-spec : {M : Type 1} → statement M
 mend-all-spec =

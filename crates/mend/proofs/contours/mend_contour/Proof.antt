@@ -1,7 +1,7 @@
 -- `mend::contours::mend_contour` meets its contract: what the walk left closes up. Assumes nothing.
 use Prim.Native.Nat.{◌+◌, ◌-◌}
 use native.Mathlib.Omega.{arith}
-use Rattle.mend.proofs.Contour.{close-ready, contour-mended}
+use Rattle.mend.proofs.Contour.{close_ready, contour_mended}
 use borrow.Author.Rules.{rules}
 use Rattle.mend.proofs.contours.mend_contour.Statement.{statement}
 use Rattle.mend.proofs.contours.mend_contour.Tie as tie
@@ -32,7 +32,7 @@ close-up-requires : tie.Need-close-up-requires
 close-up-requires c κs =
     let at-walk = c.before.before.before.before.before.before.before.before.before in
     let start = at-walk.before.before.before.before.before.before.before in
-    let s = at-walk.walk.result in close-ready start.requires at-walk.walk.ensures (s.lo + s.n - s.lo) (omega arith)
+    let s = at-walk.walk.result in close_ready start.requires at-walk.walk.ensures (s.lo + s.n - s.lo) (omega arith)
 
 same_length : tie.Need-same-length
 same_length c = search rules
@@ -49,7 +49,7 @@ returns c =
     let at-walk = at-close-up.before.before.before.before.before.before.before.before.before.before in
     let start = at-walk.before.before.before.before.before.before.before in
     let s = at-walk.walk.result in
-    contour-mended start.requires at-walk.walk.ensures (s.lo + s.n - s.lo) (omega arith) at-close-up.close_up.ensures
+    contour_mended start.requires at-walk.walk.ensures (s.lo + s.n - s.lo) (omega arith) at-close-up.close_up.ensures
 
 pub mend-contour-spec : {M : Type 1} → statement M
 mend-contour-spec =

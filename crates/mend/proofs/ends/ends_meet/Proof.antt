@@ -2,7 +2,7 @@
 use mathlib.Core.Path.{sym, ◌∙◌}
 use Prim.Native.Nat.{◌+◌, ◌-◌}
 use native.Mathlib.Omega.{arith}
-use Rattle.mend.proofs.EndsMeeting.{held_both, met-few, met-near, met-last, met-two, met-apart}
+use Rattle.mend.proofs.EndsMeeting.{held_both, met_few, met_near, met_last, met_two, met_apart}
 use borrow.Author.Rules.{rules}
 use Rattle.mend.proofs.ends.ends_meet.Statement.{statement}
 use Rattle.mend.proofs.ends.ends_meet.Tie as tie
@@ -14,7 +14,7 @@ use Rattle.words.proofs.places.link_at.Reads as link-at-reads
 returns : tie.Need-returns
 returns c =
     let at-4 = c.before.before.before.before in
-    let s = at-4 in met-few s.args.numbers.now s.args.stack.now s.args.at c.if1.true
+    let s = at-4 in met_few s.args.numbers.now s.args.stack.now s.args.at c.if1.true
 
 link-at-requires : tie.Need-link-at-requires
 link-at-requires c κs = search rules
@@ -45,7 +45,7 @@ returns-2 c =
     let at-link-at = at-link-at2.before.before.before in
     let at-if1 = at-link-at.before in
     let start = at-if1.before.before.before.before in
-    met-near start.args.numbers.now start.args.stack.now start.args.at at-if1.if1.false at-link-at.link_at.ensures
+    met_near start.args.numbers.now start.args.stack.now start.args.at at-if1.if1.false at-link-at.link_at.ensures
     at-link-at2.link-at2.ensures (sym at-same-place.same_place.ensures ∙ c.if2.true)
 
 sub-link-at-2 : tie.Need-overflow-sub-link-at-2
@@ -77,7 +77,7 @@ returns-3 c =
     let at-link-at = at-link-at2.before.before.before in
     let at-if1 = at-link-at.before in
     let start = at-if1.before.before.before.before in
-    met-last start.args.numbers.now start.args.stack.now start.args.at at-if1.if1.false at-link-at.link_at.ensures
+    met_last start.args.numbers.now start.args.stack.now start.args.at at-if1.if1.false at-link-at.link_at.ensures
     at-link-at2.link-at2.ensures (sym at-same-place.same_place.ensures ∙ at-if2.if2.false)
     at-link-at3.link-at3.ensures (sym at-same-place2.same-place2.ensures ∙ c.if3.true)
 
@@ -110,7 +110,7 @@ returns-4 c =
     let at-link-at = at-link-at2.before.before.before in
     let at-if1 = at-link-at.before in
     let start = at-if1.before.before.before.before in
-    met-two start.args.numbers.now start.args.stack.now start.args.at at-if1.if1.false at-link-at.link_at.ensures
+    met_two start.args.numbers.now start.args.stack.now start.args.at at-if1.if1.false at-link-at.link_at.ensures
     at-link-at2.link-at2.ensures (sym at-same-place.same_place.ensures ∙ at-if2.if2.false)
     at-link-at3.link-at3.ensures (sym at-same-place2.same-place2.ensures ∙ at-if3.if3.false) at-link-at4.link-at4.ensures (sym
     at-same-place3.same-place3.ensures ∙ c.if4.true)
@@ -128,7 +128,7 @@ returns-5 c =
     let at-link-at = at-link-at2.before.before.before in
     let at-if1 = at-link-at.before in
     let start = at-if1.before.before.before.before in
-    met-apart start.args.numbers.now start.args.stack.now start.args.at at-if1.if1.false at-link-at.link_at.ensures
+    met_apart start.args.numbers.now start.args.stack.now start.args.at at-if1.if1.false at-link-at.link_at.ensures
     at-link-at2.link-at2.ensures (sym at-same-place.same_place.ensures ∙ at-if2.if2.false)
     at-link-at3.link-at3.ensures (sym at-same-place2.same-place2.ensures ∙ at-if3.if3.false) at-link-at4.link-at4.ensures (sym
     at-same-place3.same-place3.ensures ∙ c.if4.false)

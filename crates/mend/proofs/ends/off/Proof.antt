@@ -1,5 +1,5 @@
 -- `mend::ends::off` meets its contract: two numbers are read, and one is lost after the other. Assumes nothing.
-use Rattle.mend.proofs.OffEnds.{off-lose, off-left}
+use Rattle.mend.proofs.OffEnds.{off_lose, off_left}
 use borrow.Author.Rules.{rules}
 use Rattle.mend.proofs.ends.off.Statement.{statement}
 use Rattle.mend.proofs.ends.off.Tie as tie
@@ -18,7 +18,7 @@ lose-requires : tie.Need-lose-requires
 lose-requires c κs =
     let at-link-at2 = c.before.before in
     let at-link-at = at-link-at2.before in
-    let start = at-link-at.before.before.before.before in off-lose start.requires at-link-at.link_at.ensures at-link-at2.link-at2.ensures
+    let start = at-link-at.before.before.before.before in off_lose start.requires at-link-at.link_at.ensures at-link-at2.link-at2.ensures
 
 sub-t16 : tie.Need-overflow-sub-t16
 sub-t16 c = search rules
@@ -38,7 +38,7 @@ returns c =
     let at-link-at2 = at-lose.before.before.before in
     let at-link-at = at-link-at2.before in
     let start = at-link-at.before.before.before.before in
-    off-left start.args.stack.now start.args.kept start.args.gone start.args.lo at-link-at.link_at.ensures
+    off_left start.args.stack.now start.args.kept start.args.gone start.args.lo at-link-at.link_at.ensures
     at-link-at2.link-at2.ensures at-lose.lose.ensures
 
 pub off-spec : {M : Type 1} → statement M

@@ -1,7 +1,7 @@
 -- `mend::ends::off_ends` meets its contract: each case is the turn's own. Assumes nothing.
 use native.Mathlib.Omega.{arith}
-use Rattle.mend.proofs.EndTurns.{ends_as, near-three, last-three, two-three, near-back, near-front, last-front, two-front, two-again}
-use Rattle.mend.proofs.EndTurns.{turned-near, turned-last, turned_two, turned_none}
+use Rattle.mend.proofs.EndTurns.{ends_as, near_three, last_three, two_three, near_back, near_front, last_front, two_front, two_again}
+use Rattle.mend.proofs.EndTurns.{turned_near, turned_last, turned_two, turned_none}
 use borrow.Author.Rules.{rules}
 use Rattle.mend.proofs.ends.off_ends.Statement.{statement}
 use Rattle.mend.proofs.ends.off_ends.Tie as tie
@@ -23,7 +23,7 @@ sub-last c =
     let start = at-ends-meet.before.before.before.before.before in
     let met = ends_as start.args.numbers.now start.args.stack.now start.args.at at-enum-told.enum_told.given.1
     at-ends-meet.ends-meet.ensures in
-    omega (arith, near-three start.args.numbers.now start.args.stack.now start.args.at met)
+    omega (arith, near_three start.args.numbers.now start.args.stack.now start.args.at met)
 
 add-last : tie.Need-overflow-add-last
 add-last c = search rules
@@ -35,7 +35,7 @@ sub-off c =
     let start = at-ends-meet.before.before.before.before.before in
     let met = ends_as start.args.numbers.now start.args.stack.now start.args.at at-enum-told.enum_told.given.1
     at-ends-meet.ends-meet.ensures in
-    omega (arith, near-three start.args.numbers.now start.args.stack.now start.args.at met)
+    omega (arith, near_three start.args.numbers.now start.args.stack.now start.args.at met)
 
 off-requires : tie.Need-off-requires
 off-requires c κs =
@@ -44,7 +44,7 @@ off-requires c κs =
     let start = at-ends-meet.before.before.before.before.before in
     let met = ends_as start.args.numbers.now start.args.stack.now start.args.at at-enum-told.enum_told.given.1
     at-ends-meet.ends-meet.ensures in
-    near-back start.requires met
+    near_back start.requires met
 
 sub-off-2 : tie.Need-overflow-sub-off-2
 sub-off-2 c =
@@ -53,7 +53,7 @@ sub-off-2 c =
     let start = at-ends-meet.before.before.before.before.before in
     let met = ends_as start.args.numbers.now start.args.stack.now start.args.at at-enum-told.enum_told.given.1
     at-ends-meet.ends-meet.ensures in
-    omega (arith, near-three start.args.numbers.now start.args.stack.now start.args.at met)
+    omega (arith, near_three start.args.numbers.now start.args.stack.now start.args.at met)
 
 add-off : tie.Need-overflow-add-off
 add-off c = search rules
@@ -66,7 +66,7 @@ off-requires-2 c κs =
     let start = at-ends-meet.before.before.before.before.before in
     let met = ends_as start.args.numbers.now start.args.stack.now start.args.at at-enum-told.enum_told.given.1
     at-ends-meet.ends-meet.ensures in
-    near-front start.requires met at_off.off.ensures
+    near_front start.requires met at_off.off.ensures
 
 enum-told-2 : tie.Need-enum-told-2
 enum-told-2 c = search rules
@@ -78,7 +78,7 @@ sub-off-3 c =
     let start = at-ends-meet.before.before.before.before.before in
     let met = ends_as start.args.numbers.now start.args.stack.now start.args.at at-enum-told2.enum-told2.given.1
     at-ends-meet.ends-meet.ensures in
-    omega (arith, last-three start.args.numbers.now start.args.stack.now start.args.at met)
+    omega (arith, last_three start.args.numbers.now start.args.stack.now start.args.at met)
 
 add-off-2 : tie.Need-overflow-add-off-2
 add-off-2 c = search rules
@@ -93,7 +93,7 @@ off-requires-3 c κs =
     let start = at-ends-meet.before.before.before.before.before in
     let met = ends_as start.args.numbers.now start.args.stack.now start.args.at at-enum-told2.enum-told2.given.1
     at-ends-meet.ends-meet.ensures in
-    last-front start.requires met
+    last_front start.requires met
 
 enum-told-3 : tie.Need-enum-told-3
 enum-told-3 c = search rules
@@ -105,7 +105,7 @@ sub-last-2 c =
     let start = at-ends-meet.before.before.before.before.before in
     let met = ends_as start.args.numbers.now start.args.stack.now start.args.at at-enum-told3.enum-told3.given.1
     at-ends-meet.ends-meet.ensures in
-    omega (arith, two-three start.args.numbers.now start.args.stack.now start.args.at met)
+    omega (arith, two_three start.args.numbers.now start.args.stack.now start.args.at met)
 
 add-last-2 : tie.Need-overflow-add-last-2
 add-last-2 c = search rules
@@ -120,7 +120,7 @@ off-requires-4 c κs =
     let start = at-ends-meet.before.before.before.before.before in
     let met = ends_as start.args.numbers.now start.args.stack.now start.args.at at-enum-told3.enum-told3.given.1
     at-ends-meet.ends-meet.ensures in
-    two-front start.requires met
+    two_front start.requires met
 
 add-off-5 : tie.Need-overflow-add-off-5
 add-off-5 c = search rules
@@ -136,7 +136,7 @@ off-requires-5 c κs =
     let start = at-ends-meet.before.before.before.before.before in
     let met = ends_as start.args.numbers.now start.args.stack.now start.args.at at-enum-told3.enum-told3.given.1
     at-ends-meet.ends-meet.ensures in
-    two-again start.requires met at-off4.off4.ensures
+    two_again start.requires met at-off4.off4.ensures
 
 enum-told-4 : tie.Need-enum-told-4
 enum-told-4 c = search rules
@@ -156,7 +156,7 @@ returns c =
     let start = at-ends-meet.before.before.before.before.before in
     let met = ends_as start.args.numbers.now start.args.stack.now start.args.at at-enum-told.enum_told.given.1
     at-ends-meet.ends-meet.ensures in
-    turned-near start.args.stack.now met at_off.off.ensures at-off2.off2.ensures
+    turned_near start.args.stack.now met at_off.off.ensures at-off2.off2.ensures
 
 same-length-3 : tie.Need-same-length-3
 same-length-3 c = search rules
@@ -172,7 +172,7 @@ returns-2 c =
     let start = at-ends-meet.before.before.before.before.before in
     let met = ends_as start.args.numbers.now start.args.stack.now start.args.at at-enum-told2.enum-told2.given.1
     at-ends-meet.ends-meet.ensures in
-    turned-last start.args.stack.now met at-off3.off3.ensures
+    turned_last start.args.stack.now met at-off3.off3.ensures
 
 same-length-5 : tie.Need-same-length-5
 same-length-5 c = search rules

@@ -1,6 +1,6 @@
 -- `mend::ends::take_ends` meets its contract: the loop's invariant is `Taking`: the turns that are left give the whole from the state that stands. The
 -- measure is how many are left. Assumes nothing.
-use Rattle.mend.proofs.Taking.{Taking, taking-begin, taking-ready, taking-more, taking-still, taking-end}
+use Rattle.mend.proofs.Taking.{Taking, taking_begin, taking_ready, taking_more, taking_still, taking_end}
 use borrow.Author.Rules.{rules}
 use Rattle.mend.proofs.ends.take_ends.Statement.{statement}
 use Rattle.mend.proofs.ends.take_ends.Tie as tie
@@ -17,14 +17,14 @@ decreases-loop writes numbers₀ list₀ stack at₀ turns₀ numbers list at tu
 loop-holds : tie.Need-loop-init invariant-loop decreases-loop
 loop-holds c =
     let start = c.before.before.before in
-    taking-begin start.requires
+    taking_begin start.requires
 
 off-ends-requires : tie.Need-off-ends-requires invariant-loop decreases-loop
 off-ends-requires c κs =
     let at-loop-test = c.before.before in
     let at-loop = at-loop-test.before in
     let start = at-loop.before.before.before.before in
-    taking-ready start.requires at-loop.loop.invariant at-loop-test.loop-test.true
+    taking_ready start.requires at-loop.loop.invariant at-loop-test.loop-test.true
 
 same_length : tie.Need-same-length invariant-loop decreases-loop
 same_length c = search rules
@@ -37,7 +37,7 @@ returns c =
     let at-off-ends = c.before.before.before.before.before.before.before in
     let at-loop = at-off-ends.before.before.before.before in
     let start = at-loop.before.before.before.before in
-    taking-still start.requires at-loop.loop.invariant at-off-ends.off-ends.ensures c.if1.true
+    taking_still start.requires at-loop.loop.invariant at-off-ends.off-ends.ensures c.if1.true
 
 sub-turns : tie.Need-overflow-sub-turns invariant-loop decreases-loop
 sub-turns c = search rules
@@ -51,7 +51,7 @@ loop-again c =
     let at-loop-test = at-off-ends.before.before.before in
     let at-loop = at-loop-test.before in
     let start = at-loop.before.before.before.before in
-    taking-more start.requires at-loop.loop.invariant at-loop-test.loop-test.true at-off-ends.off-ends.ensures
+    taking_more start.requires at-loop.loop.invariant at-loop-test.loop-test.true at-off-ends.off-ends.ensures
 
 same-length-3 : tie.Need-same-length-3 invariant-loop decreases-loop
 same-length-3 c = search rules
@@ -63,7 +63,7 @@ returns-2 : tie.Need-returns-2 invariant-loop decreases-loop
 returns-2 c =
     let at-loop = c.before in
     let start = at-loop.before.before.before.before in
-    taking-end start.requires at-loop.loop.invariant c.loop-test.false
+    taking_end start.requires at-loop.loop.invariant c.loop-test.false
 
 pub take-ends-spec : {M : Type 1} → statement M
 take-ends-spec =

@@ -2,7 +2,7 @@
 -- how many are left. Assumes nothing.
 use Prim.Native.Nat.{◌-◌}
 use lib.ListN.{length}
-use Rattle.mend.proofs.Longest.{Longest, longest-begin, longest-more, longest-end}
+use Rattle.mend.proofs.Longest.{Longest, longest_begin, longest_more, longest_end}
 use borrow.Author.Rules.{rules}
 use Rattle.mend.proofs.job.longest_of.Statement.{statement}
 use Rattle.mend.proofs.job.longest_of.Tie as tie
@@ -18,7 +18,7 @@ abbrev decreases-loop : tie.decreases-loop
 decreases-loop lengths most₀ c₀ most c = length lengths - c
 
 loop-holds : tie.Need-loop-init invariant-loop decreases-loop
-loop-holds c = longest-begin c.before.args.lengths.now
+loop-holds c = longest_begin c.before.args.lengths.now
 
 link-at-requires : tie.Need-link-at-requires invariant-loop decreases-loop
 link-at-requires c κs = search rules
@@ -37,10 +37,10 @@ loop-again c =
     let at-link-at = c.before in
     let at-loop-test = at-link-at.before in
     let at-loop = at-loop-test.before in
-    longest-more at-loop.loop.invariant at-loop-test.loop-test.true at-link-at.link_at.ensures c.longer-of.ensures
+    longest_more at-loop.loop.invariant at-loop-test.loop-test.true at-link-at.link_at.ensures c.longer-of.ensures
 
 returns : tie.Need-returns invariant-loop decreases-loop
-returns c = longest-end c.before.loop.invariant c.loop-test.false
+returns c = longest_end c.before.loop.invariant c.loop-test.false
 
 pub longest-of-spec : {M : Type 1} → statement M
 longest-of-spec =

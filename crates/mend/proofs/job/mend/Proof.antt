@@ -1,5 +1,5 @@
 -- `mend::job::mend` meets its contract: the job of one contour. Assumes nothing.
-use Rattle.mend.proofs.Calling.{one-not-whole, one-short, one-mended}
+use Rattle.mend.proofs.Calling.{one_not_whole, one_short, one_mended}
 use borrow.Author.Rules.{rules}
 use Rattle.mend.proofs.job.mend.Statement.{statement}
 use Rattle.mend.proofs.job.mend.Tie as tie
@@ -13,13 +13,13 @@ mul-if1 c = search rules
 returns : tie.Need-returns
 returns c =
     let start = c.before.before.before.before in
-    one-not-whole start.args.numbers.now start.args.list.now start.args.work.now c.if1.true
+    one_not_whole start.args.numbers.now start.args.list.now start.args.work.now c.if1.true
 
 returns-2 : tie.Need-returns-2
 returns-2 c =
     let at-if1 = c.before in
     let start = at-if1.before.before.before.before in
-    one-short start.args.numbers.now start.args.list.now start.args.work.now at-if1.if1.false c.if2.true
+    one_short start.args.numbers.now start.args.list.now start.args.work.now at-if1.if1.false c.if2.true
 
 cast-t9 : tie.Need-overflow-cast-t9
 cast-t9 c = search rules
@@ -43,7 +43,7 @@ returns-3 : tie.Need-returns-3
 returns-3 c =
     let at-mend-job = c.before.before.before.before.before.before.before in
     let start = at-mend-job.before.before.before.before.before.before.before.before.before.before in
-    one-mended start.args.numbers.now start.args.list.now start.args.work.now at-mend-job.mend-job.ensures
+    one_mended start.args.numbers.now start.args.list.now start.args.work.now at-mend-job.mend-job.ensures
 
 pub mend-spec : {M : Type 1} → statement M
 mend-spec =

@@ -1,5 +1,5 @@
 -- `mend::job::mend_checked` meets its contract: the list is full, or everything is written. Assumes nothing.
-use Rattle.mend.proofs.Calling.{ended-full, write-ready, ended-written}
+use Rattle.mend.proofs.Calling.{ended_full, write_ready, ended_written}
 use borrow.Author.Rules.{rules}
 use Rattle.mend.proofs.job.mend_checked.Statement.{statement}
 use Rattle.mend.proofs.job.mend_checked.Tie as tie
@@ -33,14 +33,14 @@ returns c =
     let at-if1 = at_fill_lem.before.before in
     let at-count-lost = at-if1.before.before.before.before.before.before.before in
     let start = at-count-lost.before.before.before.before.before.before.before.before.before in
-    ended-full start.requires at-count-lost.count-lost.ensures at-if1.if1.true at_fill_lem.fill.ensures
+    ended_full start.requires at-count-lost.count-lost.ensures at-if1.if1.true at_fill_lem.fill.ensures
 
 write-requires : tie.Need-write-requires
 write-requires c κs =
     let at-if1 = c.before.before.before.before in
     let at-count-lost = at-if1.before.before.before.before.before.before.before in
     let start = at-count-lost.before.before.before.before.before.before.before.before.before in
-    write-ready start.requires at-count-lost.count-lost.ensures at-if1.if1.false
+    write_ready start.requires at-count-lost.count-lost.ensures at-if1.if1.false
 
 same-length-5 : tie.Need-same-length-5
 same-length-5 c = search rules
@@ -60,7 +60,7 @@ returns-2 c =
     let at-if1 = at-write.before.before.before.before.before in
     let at-count-lost = at-if1.before.before.before.before.before.before.before in
     let start = at-count-lost.before.before.before.before.before.before.before.before.before in
-    ended-written start.requires at-count-lost.count-lost.ensures at-if1.if1.false at-write.write.ensures
+    ended_written start.requires at-count-lost.count-lost.ensures at-if1.if1.false at-write.write.ensures
 
 pub mend-checked-spec : {M : Type 1} → statement M
 mend-checked-spec =

@@ -1,7 +1,7 @@
 -- `mend::job::mend_job` meets its contract: the first refusal that applies, or what the checks let through. Assumes nothing.
 use mathlib.Core.Bool.{true, false}
 use mathlib.Core.Path.{sym, ◌∙◌}
-use Rattle.mend.proofs.Calling.{job-not-whole, job-disagrees, job-short, job-ended, whole-now, agree-now, short-now, mend-ready}
+use Rattle.mend.proofs.Calling.{job_not_whole, job_disagrees, job_short, job_ended, whole_now, agree_now, short_now, mend_ready}
 use borrow.Author.Rules.{rules}
 use Rattle.mend.proofs.job.mend_job.Statement.{statement}
 use Rattle.mend.proofs.job.mend_job.Tie as tie
@@ -17,7 +17,7 @@ mul-if1 c = search rules
 returns : tie.Need-returns
 returns c =
     let start = c.before.before.before.before.before in
-    job-not-whole start.args.lengths.now start.args.numbers.now start.args.list.now start.args.work.now c.if1.true
+    job_not_whole start.args.lengths.now start.args.numbers.now start.args.list.now start.args.work.now c.if1.true
 
 lengths-agree-requires : tie.Need-lengths-agree-requires
 lengths-agree-requires c κs = search rules
@@ -36,10 +36,10 @@ returns-2 c =
     let at-if1 = at-lengths-agree.before.before in
     let start = at-if1.before.before.before.before.before in
     let agree = at-lengths-agree.lengths-agree in
-    job-short start.args.lengths.now start.args.numbers.now start.args.list.now start.args.work.now (whole-now
+    job_short start.args.lengths.now start.args.numbers.now start.args.list.now start.args.work.now (whole_now
     start.args.numbers.now at-if1.if1.false)
-    (agree-now start.args.lengths.now start.args.numbers.now true agree.ensures at-if2.if2.true)
-    (short-now start.args.lengths.now start.args.numbers.now start.args.list.now start.args.work.now true
+    (agree_now start.args.lengths.now start.args.numbers.now true agree.ensures at-if2.if2.true)
+    (short_now start.args.lengths.now start.args.numbers.now start.args.list.now start.args.work.now true
     at-longest-of.longest-of.ensures c.if3.true)
 
 mend-checked-requires : tie.Need-mend-checked-requires
@@ -50,7 +50,7 @@ mend-checked-requires c κs =
     let at-lengths-agree = at-if2.before in
     let at-if1 = at-lengths-agree.before.before in
     let start = at-if1.before.before.before.before.before in
-    mend-ready start.args.lengths.now start.args.numbers.now start.args.work.now at-if1.if1.false (sym
+    mend_ready start.args.lengths.now start.args.numbers.now start.args.work.now at-if1.if1.false (sym
     at-lengths-agree.lengths-agree.ensures ∙ at-if2.if2.true)
     at-longest-of.longest-of.ensures at-if3.if3.false
 
@@ -76,10 +76,10 @@ returns-3 c =
     let at-if1 = at-lengths-agree.before.before in
     let start = at-if1.before.before.before.before.before in
     let agree = at-lengths-agree.lengths-agree in
-    job-ended start.args.lengths.now start.args.numbers.now start.args.list.now start.args.work.now (whole-now
+    job_ended start.args.lengths.now start.args.numbers.now start.args.list.now start.args.work.now (whole_now
     start.args.numbers.now at-if1.if1.false)
-    (agree-now start.args.lengths.now start.args.numbers.now true agree.ensures at-if2.if2.true)
-    (short-now start.args.lengths.now start.args.numbers.now start.args.list.now start.args.work.now false
+    (agree_now start.args.lengths.now start.args.numbers.now true agree.ensures at-if2.if2.true)
+    (short_now start.args.lengths.now start.args.numbers.now start.args.list.now start.args.work.now false
     at-longest-of.longest-of.ensures at-if3.if3.false)
     at-mend-checked.mend-checked.ensures
 
@@ -92,9 +92,9 @@ returns-4 c =
     let at-if1 = at-lengths-agree.before.before in
     let start = at-if1.before.before.before.before.before in
     let agree = at-lengths-agree.lengths-agree in
-    job-disagrees start.args.lengths.now start.args.numbers.now start.args.list.now start.args.work.now (whole-now
+    job_disagrees start.args.lengths.now start.args.numbers.now start.args.list.now start.args.work.now (whole_now
     start.args.numbers.now at-if1.if1.false)
-    (agree-now start.args.lengths.now start.args.numbers.now false agree.ensures c.if2.false)
+    (agree_now start.args.lengths.now start.args.numbers.now false agree.ensures c.if2.false)
 
 pub mend-job-spec : {M : Type 1} → statement M
 mend-job-spec =

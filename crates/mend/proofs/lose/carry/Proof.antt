@@ -1,5 +1,5 @@
 -- `mend::lose::carry` meets its contract: a 1 is taken, and nothing else. Assumes nothing.
-use Rattle.laws.specs.MendNumbers.{carried-one, carried_none}
+use Rattle.laws.specs.MendNumbers.{carried_one, carried_none}
 use mathlib.Core.Path.{sym}
 use borrow.Author.Rules.{rules}
 use Rattle.mend.proofs.lose.carry.Statement.{statement}
@@ -37,7 +37,7 @@ same_length c = search rules
 returns : tie.Need-returns
 returns c =
     let start = c.before.before in
-    sym (carried-one start.args.numbers.now start.args.p start.args.q c.if1.true)
+    sym (carried_one start.args.numbers.now start.args.p start.args.q c.if1.true)
 
 returns-2 : tie.Need-returns-2
 returns-2 c =

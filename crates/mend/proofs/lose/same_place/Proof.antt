@@ -1,8 +1,8 @@
 -- `mend::lose::same_place` meets its contract: x and z are compared as the rules compare places. Assumes nothing.
 use mathlib.Core.Path.{refl}
 use Rattle.rules.specs.Plane.{vequal}
-use Rattle.rules.specs.Job.{vertexAt}
-use Rattle.laws.specs.MendNumbers.{samePlace}
+use Rattle.rules.specs.Job.{vertex_at}
+use Rattle.laws.specs.MendNumbers.{same_place}
 use borrow.Author.Rules.{rules}
 use Rattle.mend.proofs.lose.same_place.Statement.{statement}
 use Rattle.mend.proofs.lose.same_place.Tie as tie
@@ -46,7 +46,7 @@ shared-slice-read-result-4 : tie.Need-shared-slice-read-result-4
 shared-slice-read-result-4 c = search rules
 
 returns : tie.Need-returns
-unfolding samePlace vequal vertexAt
+unfolding same_place vequal vertex_at
 returns c = refl
 
 pub same-place-spec : {M : Type 1} → statement M

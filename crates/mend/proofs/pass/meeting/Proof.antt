@@ -1,7 +1,7 @@
 -- `mend::pass::meeting` meets its contract: each test is the pass's own. Assumes nothing.
 use mathlib.Core.Path.{sym, ◌∙◌}
 use native.Mathlib.Omega.{arith}
-use Rattle.mend.proofs.Meeting.{both-in, met-few, met-top, met-low, met-second, met-neither}
+use Rattle.mend.proofs.Meeting.{both_in, met_few, met_top, met_low, met_second, met_neither}
 use Prim.Native.Nat.{◌-◌}
 use borrow.Author.Rules.{rules}
 use Rattle.mend.proofs.pass.meeting.Statement.{statement}
@@ -20,7 +20,7 @@ add-if1 c = search rules
 returns : tie.Need-returns
 returns c =
     let at-3 = c.before.before.before in
-    let s = at-3 in met-few s.args.numbers.now s.args.work.now s.args.top s.args.e s.args.j s.requires c.if1.true
+    let s = at-3 in met_few s.args.numbers.now s.args.work.now s.args.top s.args.e s.args.j s.requires c.if1.true
 
 sub-link-at : tie.Need-overflow-sub-link-at
 sub-link-at c = search rules
@@ -31,7 +31,7 @@ link-at-requires c κs = search rules
 same-place-requires : tie.Need-same-place-requires
 same-place-requires c κs =
     let start = c.before.before.before.before in
-    both-in start.args.numbers.now start.args.work.now start.args.top start.args.e start.args.j start.requires _ (start.args.top - 1)
+    both_in start.args.numbers.now start.args.work.now start.args.top start.args.e start.args.j start.requires _ (start.args.top - 1)
     (omega (arith, start.requires.some)) c.link_at.ensures
 
 returns-2 : tie.Need-returns-2
@@ -42,7 +42,7 @@ returns-2 c =
     let start = at-3.before.before.before in
     let high = at-3 in
     let top = at-link-at.link_at in
-    met-top start.args.numbers.now start.args.work.now start.args.top start.args.e start.args.j start.requires
+    met_top start.args.numbers.now start.args.work.now start.args.top start.args.e start.args.j start.requires
     high.if1.false top.result top.ensures (sym at-same-place.same_place.ensures ∙ c.if2.true)
 
 returns-3 : tie.Need-returns-3
@@ -54,7 +54,7 @@ returns-3 c =
     let start = at-4.before.before.before in
     let high = at-4 in
     let top = at-link-at.link_at in
-    met-low start.args.numbers.now start.args.work.now start.args.top start.args.e start.args.j start.requires
+    met_low start.args.numbers.now start.args.work.now start.args.top start.args.e start.args.j start.requires
     high.if1.false top.result top.ensures (sym at-same-place.same_place.ensures ∙ at-if2.if2.false) c.if3.true
 
 link-at-requires-2 : tie.Need-link-at-requires-2
@@ -63,7 +63,7 @@ link-at-requires-2 c κs = search rules
 same-place-requires-2 : tie.Need-same-place-requires-2
 same-place-requires-2 c κs =
     let start = c.before.before.before.before.before.before.before.before in
-    both-in start.args.numbers.now start.args.work.now start.args.top start.args.e start.args.j start.requires _ (start.args.top - 2)
+    both_in start.args.numbers.now start.args.work.now start.args.top start.args.e start.args.j start.requires _ (start.args.top - 2)
     (omega (arith, start.requires.some)) c.link-at2.ensures
 
 returns-4 : tie.Need-returns-4
@@ -79,7 +79,7 @@ returns-4 c =
     let high = at_7 in
     let top = at-link-at.link_at in
     let second = at-link-at2.link-at2 in
-    met-second start.args.numbers.now start.args.work.now start.args.top start.args.e start.args.j start.requires
+    met_second start.args.numbers.now start.args.work.now start.args.top start.args.e start.args.j start.requires
     high.if1.false top.result top.ensures second.result (sym at-same-place.same_place.ensures ∙ at-if2.if2.false)
     at-if3.if3.false second.ensures (sym at-same-place2.same-place2.ensures ∙ c.if4.true)
 
@@ -96,7 +96,7 @@ returns-5 c =
     let high = at_7 in
     let top = at-link-at.link_at in
     let second = at-link-at2.link-at2 in
-    met-neither start.args.numbers.now start.args.work.now start.args.top start.args.e start.args.j start.requires
+    met_neither start.args.numbers.now start.args.work.now start.args.top start.args.e start.args.j start.requires
     high.if1.false top.result top.ensures second.result (sym at-same-place.same_place.ensures ∙ at-if2.if2.false)
     at-if3.if3.false second.ensures (sym at-same-place2.same-place2.ensures ∙ c.if4.false)
 

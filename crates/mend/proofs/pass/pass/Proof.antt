@@ -1,6 +1,6 @@
 -- `mend::pass::pass` meets its contract: each case is a loss, two losses, or a number more on the stack. Assumes nothing.
 use native.Mathlib.Omega.{arith}
-use Rattle.mend.proofs.Passing.{met-as, second-tall, lose-top, lose-tip, lose-back, passed-joined, passed-lost, passed-turned}
+use Rattle.mend.proofs.Passing.{met_as, second_tall, lose_top, lose_tip, lose_back, passed_joined, passed_lost, passed_turned}
 use borrow.Author.Rules.{rules}
 use Rattle.mend.proofs.pass.pass.Statement.{statement}
 use Rattle.mend.proofs.pass.pass.Tie as tie
@@ -28,9 +28,9 @@ lose-requires c κs =
     let at-enum-told = at-link-at.before.before in
     let at-meeting = at-enum-told.before.before in
     let start = at-meeting.before.before.before.before.before.before in
-    let met = met-as start.args.numbers.now start.args.work.now start.args.at.top start.args.e start.args.j
+    let met = met_as start.args.numbers.now start.args.work.now start.args.at.top start.args.e start.args.j
     at-enum-told.enum_told.given.1 at-meeting.meeting.ensures in
-    lose-top start.requires at-link-at.link_at.result met at-link-at.link_at.ensures
+    lose_top start.requires at-link-at.link_at.result met at-link-at.link_at.ensures
 
 add-t21 : tie.Need-overflow-add-t21
 add-t21 c =
@@ -46,9 +46,9 @@ sub-link-at-2 c =
     let at-enum-told2 = c.before in
     let at-meeting = at-enum-told2.before.before in
     let start = at-meeting.before.before.before.before.before.before in
-    let met = met-as start.args.numbers.now start.args.work.now start.args.at.top start.args.e start.args.j
+    let met = met_as start.args.numbers.now start.args.work.now start.args.at.top start.args.e start.args.j
     at-enum-told2.enum-told2.given.1 at-meeting.meeting.ensures in
-    second-tall start.args.numbers.now start.args.work.now start.args.at.top start.args.e start.args.j met
+    second_tall start.args.numbers.now start.args.work.now start.args.at.top start.args.e start.args.j met
 
 link-at-requires-2 : tie.Need-link-at-requires-2
 link-at-requires-2 c κs = search rules
@@ -66,9 +66,9 @@ lose-requires-2 c κs =
     let at-enum-told2 = at-link-at2.before.before in
     let at-meeting = at-enum-told2.before.before in
     let start = at-meeting.before.before.before.before.before.before in
-    let met = met-as start.args.numbers.now start.args.work.now start.args.at.top start.args.e start.args.j
+    let met = met_as start.args.numbers.now start.args.work.now start.args.at.top start.args.e start.args.j
     at-enum-told2.enum-told2.given.1 at-meeting.meeting.ensures in
-    lose-tip start.requires at-link-at2.link-at2.result at-link-at3.link-at3.result met at-link-at2.link-at2.ensures at-link-at3.link-at3.ensures
+    lose_tip start.requires at-link-at2.link-at2.result at-link-at3.link-at3.result met at-link-at2.link-at2.ensures at-link-at3.link-at3.ensures
 
 add-lose : tie.Need-overflow-add-lose
 add-lose c =
@@ -84,9 +84,9 @@ lose-requires-3 c κs =
     let at-enum-told2 = at-link-at2.before.before in
     let at-meeting = at-enum-told2.before.before in
     let start = at-meeting.before.before.before.before.before.before in
-    let met = met-as start.args.numbers.now start.args.work.now start.args.at.top start.args.e start.args.j
+    let met = met_as start.args.numbers.now start.args.work.now start.args.at.top start.args.e start.args.j
     at-enum-told2.enum-told2.given.1 at-meeting.meeting.ensures in
-    lose-back start.requires at-link-at2.link-at2.result at-link-at3.link-at3.result met at-link-at2.link-at2.ensures at-lose2.lose2.ensures
+    lose_back start.requires at-link-at2.link-at2.result at-link-at3.link-at3.result met at-link-at2.link-at2.ensures at-lose2.lose2.ensures
 
 sub-t29 : tie.Need-overflow-sub-t29
 sub-t29 c = search rules
@@ -128,9 +128,9 @@ returns c =
     let at-enum-told = at-link-at.before.before in
     let at-meeting = at-enum-told.before.before in
     let start = at-meeting.before.before.before.before.before.before in
-    let met = met-as start.args.numbers.now start.args.work.now start.args.at.top start.args.e start.args.j
+    let met = met_as start.args.numbers.now start.args.work.now start.args.at.top start.args.e start.args.j
     at-enum-told.enum_told.given.1 at-meeting.meeting.ensures in
-    passed-lost at-link-at.link_at.result met start.requires.meets.some at-link-at.link_at.ensures at-lose.lose.ensures
+    passed_lost at-link-at.link_at.result met start.requires.meets.some at-link-at.link_at.ensures at-lose.lose.ensures
 
 same-length-4 : tie.Need-same-length-4
 same-length-4 c = search rules
@@ -150,9 +150,9 @@ returns-2 c =
     let at-enum-told2 = at-link-at2.before.before in
     let at-meeting = at-enum-told2.before.before in
     let start = at-meeting.before.before.before.before.before.before in
-    let met = met-as start.args.numbers.now start.args.work.now start.args.at.top start.args.e start.args.j
+    let met = met_as start.args.numbers.now start.args.work.now start.args.at.top start.args.e start.args.j
     at-enum-told2.enum-told2.given.1 at-meeting.meeting.ensures in
-    passed-turned at-link-at2.link-at2.result at-link-at3.link-at3.result met at-link-at2.link-at2.ensures at-link-at3.link-at3.ensures
+    passed_turned at-link-at2.link-at2.result at-link-at3.link-at3.result met at-link-at2.link-at2.ensures at-link-at3.link-at3.ensures
     at-lose2.lose2.ensures at-lose3.lose3.ensures
 
 same-length-7 : tie.Need-same-length-7
@@ -165,9 +165,9 @@ returns-3 : tie.Need-returns-3
 returns-3 c =
     let at-meeting = c.before.before in
     let start = at-meeting.before.before.before.before.before.before in
-    let met = met-as start.args.numbers.now start.args.work.now start.args.at.top start.args.e start.args.j
+    let met = met_as start.args.numbers.now start.args.work.now start.args.at.top start.args.e start.args.j
     c.enum-told3.given.1 at-meeting.meeting.ensures in
-    passed-joined met start.requires.fits
+    passed_joined met start.requires.fits
 
 pub pass_spec : {M : Type 1} → statement M
 pass_spec =

@@ -3,7 +3,7 @@
 use lib.ListN.{length-set}
 use mathlib.Core.Path.{◌∙◌}
 use Prim.Native.Nat.{◌-◌}
-use Rattle.mend.proofs.Going.{Going, going-begin, going-ready, going_more, going_end}
+use Rattle.mend.proofs.Going.{Going, going_begin, going_ready, going_more, going_end}
 use borrow.Author.Rules.{rules}
 use Rattle.mend.proofs.pass.pass_all.Statement.{statement}
 use Rattle.mend.proofs.pass.pass_all.Tie as tie
@@ -29,14 +29,14 @@ add-j c = search rules
 loop-holds : tie.Need-loop-init invariant-loop decreases-loop
 loop-holds c =
     let start = c.before.before.before in
-    going-begin start.requires
+    going_begin start.requires
 
 pass-requires : tie.Need-pass-requires invariant-loop decreases-loop
 pass-requires c κs =
     let at-loop-test = c.before.before.before in
     let at-loop = at-loop-test.before in
     let at_8 = at-loop.before.before.before.before in
-    let s = at_8 in going-ready s.requires at-loop.loop.invariant (length-set s.args.work.now 0 s.args.first) at-loop-test.loop-test.true
+    let s = at_8 in going_ready s.requires at-loop.loop.invariant (length-set s.args.work.now 0 s.args.first) at-loop-test.loop-test.true
 
 add-j-2 : tie.Need-overflow-add-j-2 invariant-loop decreases-loop
 add-j-2 c = search rules
@@ -63,7 +63,7 @@ same-length-3 : tie.Need-same-length-3 invariant-loop decreases-loop
 same-length-3 c =
     let at-loop = c.before in
     let at_5 = at-loop.before.before.before.before in
-    let s = at_5 in at-loop.loop.invariant.long-work ∙ length-set s.args.work.now 0 s.args.first
+    let s = at_5 in at-loop.loop.invariant.long_work ∙ length-set s.args.work.now 0 s.args.first
 
 returns : tie.Need-returns invariant-loop decreases-loop
 returns c =

@@ -1,7 +1,7 @@
 -- `mend::walk::walk` meets its contract: the points are passed, and then the ends are seen to. Assumes nothing.
 use mathlib.Core.Path.{sym}
 use lib.Seq.{length-take-le}
-use Rattle.mend.proofs.Walks.{not_none, walk_none, pass-ready, take-ready, tall, walk-left}
+use Rattle.mend.proofs.Walks.{not_none, walk_none, pass_ready, take_ready, tall, walk_left}
 use borrow.Author.Rules.{rules}
 use Rattle.mend.proofs.walk.walk.Statement.{statement}
 use Rattle.mend.proofs.walk.walk.Tie as tie
@@ -23,7 +23,7 @@ pass-all-requires : tie.Need-pass-all-requires
 pass-all-requires c κs =
     let at-if1 = c.before.before.before in
     let at_7 = at-if1.before.before.before.before in
-    let s = at_7 in pass-ready s.requires (not_none s.args.n at-if1.if1.false)
+    let s = at_7 in pass_ready s.requires (not_none s.args.n at-if1.if1.false)
 
 slice-reshare-prefix-take-ends : tie.Need-slice-reshare-prefix-take-ends
 slice-reshare-prefix-take-ends c = search rules
@@ -41,7 +41,7 @@ take-ends-requires c κs =
     let at-pass-all = c.before.before.before.before.before.before.before.before.before in
     let at-if1 = at-pass-all.before.before.before.before in
     let at-17 = at-if1.before.before.before.before in
-    let s = at-17 in take-ready s.requires (not_none s.args.n at-if1.if1.false) at-pass-all.pass_all.ensures
+    let s = at-17 in take_ready s.requires (not_none s.args.n at-if1.if1.false) at-pass-all.pass_all.ensures
 
 same_length : tie.Need-same-length
 same_length c = search rules
@@ -58,7 +58,7 @@ returns-2 c =
     let at-pass-all = at-take-ends.before.before.before.before.before.before.before.before.before.before in
     let at-if1 = at-pass-all.before.before.before.before in
     let at-22 = at-if1.before.before.before.before in
-    let s = at-22 in walk-left s.requires (not_none s.args.n at-if1.if1.false) at-pass-all.pass_all.ensures at-take-ends.Take-ends.ensures
+    let s = at-22 in walk_left s.requires (not_none s.args.n at-if1.if1.false) at-pass-all.pass_all.ensures at-take-ends.Take-ends.ensures
 
 pub walk-spec : {M : Type 1} → statement M
 walk-spec =

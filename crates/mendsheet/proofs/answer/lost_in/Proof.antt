@@ -1,7 +1,7 @@
 -- `mendsheet::answer::lost_in` meets its contract: reply by reply. Assumes nothing.
 use mathlib.Core.Path.{refl}
 use borrow.Author.Rules.{rules}
-use Rattle.rules.specs.MendCall.{mendWords}
+use Rattle.rules.specs.MendCall.{mend_words}
 use Rattle.mendsheet.proofs.answer.lost_in.Statement.{statement}
 use Rattle.mendsheet.proofs.answer.lost_in.Tie as tie
 
@@ -21,23 +21,23 @@ enum-told-4 : tie.Need-enum-told-4
 enum-told-4 c = search rules
 
 returns : tie.Need-returns
-unfolding mendWords
+unfolding mend_words
 returns c = rw c.before.reply.given.1 refl
 
 returns-2 : tie.Need-returns-2
-unfolding mendWords
+unfolding mend_words
 returns-2 c = rw c.enum_told.given.1 refl
 
 returns-3 : tie.Need-returns-3
-unfolding mendWords
+unfolding mend_words
 returns-3 c = rw c.enum-told2.given.1 refl
 
 returns-4 : tie.Need-returns-4
-unfolding mendWords
+unfolding mend_words
 returns-4 c = rw c.enum-told3.given.1 refl
 
 returns-5 : tie.Need-returns-5
-unfolding mendWords
+unfolding mend_words
 returns-5 c = rw c.enum-told4.given.1 refl
 
 pub lost-in-spec : {M : Type 1} → statement M

@@ -2,9 +2,9 @@
 use mathlib.Core.Path.{sym}
 use lib.Seq.{length-take-le}
 use borrow.Author.Rules.{rules}
-use Rattle.lines.specs.Printing.{printed-as}
-use Rattle.sheet.specs.Room.{printed-short}
-use Rattle.mendsheet.proofs.Mends.{blank, blank-long, Mends, sheet-left, kept-few, kept_there, mended-is, mended-short, sheet-ready}
+use Rattle.lines.specs.Printing.{printed_as}
+use Rattle.sheet.specs.Room.{printed_short}
+use Rattle.mendsheet.proofs.Mends.{blank, blank_long, Mends, sheet_left, kept_few, kept_there, mended_is, mended_short, sheet_ready}
 use Rattle.mendsheet.proofs.answer.put_mended.Statement.{statement}
 use Rattle.mendsheet.proofs.answer.put_mended.Tie as tie
 
@@ -12,7 +12,7 @@ use Rattle.mendsheet.proofs.answer.put_mended.Tie as tie
 left : (c : tie.After-mend-job) → let a = c.before.before.before.before.before.before.before.before.before.before.args in
     Mends a.lengths.now a.numbers.now blank c.mend-job.result c.mend-job.new.0 c.mend-job.new.1.0 c.mend-job.new.1.1.0
 left c =
-    sheet-left blank blank c.before.before.before.before.before.before.before.before.before.before.requires.sheet blank-long blank-long
+    sheet_left blank blank c.before.before.before.before.before.before.before.before.before.before.requires.sheet blank_long blank_long
     c.mend-job.ensures.0 c.mend-job.ensures.1
 
 slice-aggregate-mend-job : tie.Need-slice-aggregate-mend-job
@@ -31,7 +31,7 @@ mul-put-sheet : tie.Need-overflow-mul-put-sheet
 mul-put-sheet c =
     let k = c.before.before in
     let m = k.before.before.before.before.before.before.before in
-    let f = kept-few m.before.before.before.before.before.before.before.before.before.before.requires.sheet (left m) k.kept_in.ensures in
+    let f = kept_few m.before.before.before.before.before.before.before.before.before.before.requires.sheet (left m) k.kept_in.ensures in
     search rules
 
 slice-reshare-prefix-put-sheet : tie.Need-slice-reshare-prefix-put-sheet
@@ -52,7 +52,7 @@ put-sheet-requires c κs =
     let k = c.before.before.before in
     let m = k.before.before.before.before.before.before.before in
     let s = m.before.before.before.before.before.before.before.before.before.before in
-    sheet-ready s.requires.sheet (left m) k.kept_in.ensures s.args.x s.requires
+    sheet_ready s.requires.sheet (left m) k.kept_in.ensures s.args.x s.requires
 
 same_length : tie.Need-same-length
 same_length c = search rules
@@ -69,8 +69,8 @@ returns c =
     let k = p.before.before.before.before in
     let m = k.before.before.before.before.before.before.before in
     let s = m.before.before.before.before.before.before.before.before.before.before in
-    let t = printed-as p.put-sheet.ensures (mended-is s.requires.sheet (left m) k.kept_in.ensures s.args.x s.requires) in
-    (t, printed-short t (mended-short s.requires.sheet (left m) k.kept_in.ensures s.args.x s.requires))
+    let t = printed_as p.put-sheet.ensures (mended_is s.requires.sheet (left m) k.kept_in.ensures s.args.x s.requires) in
+    (t, printed_short t (mended_short s.requires.sheet (left m) k.kept_in.ensures s.args.x s.requires))
 
 pub put-mended-spec : {M : Type 1} → statement M
 put-mended-spec =

@@ -5,8 +5,8 @@ use native.Mathlib.Omega.{arith}
 use lib.ListN.{length}
 use borrow.Author.Rules.{rules}
 use Rattle.rules.specs.Lines.{ascii}
-use Rattle.rules.specs.Sheet.{contourName}
-use Rattle.mendsheet.proofs.SheetTexts.{Contours, contours-begin, contours-all, contour-there, line-room, points-ready, contours-more}
+use Rattle.rules.specs.Sheet.{contour_name}
+use Rattle.mendsheet.proofs.SheetTexts.{Contours, contours_begin, contours_all, contour_there, line_room, points_ready, contours_more}
 use Rattle.mendsheet.proofs.contours.put_contours.Statement.{statement}
 use Rattle.mendsheet.proofs.contours.put_contours.Tie as tie
 
@@ -19,7 +19,7 @@ decreases-loop out₀ at lengths regions codes numbers to₀ first₀ c₀ t12 o
 loop-holds : tie.Need-loop-init invariant-loop decreases-loop
 loop-holds c =
     let s = c.before.before.before.before.before in
-    contours-begin s.args.lengths.now s.args.regions.now s.args.codes.now s.args.numbers.now s.requires
+    contours_begin s.args.lengths.now s.args.regions.now s.args.codes.now s.args.numbers.now s.requires
 
 mul-t13 : tie.Need-overflow-mul-t13 invariant-loop decreases-loop
 mul-t13 c = search rules
@@ -56,7 +56,7 @@ add-end c =
     let i = c.before.before.before.before in
     let l = i.before in
     let p = l.before.before.before.before.before.before.requires.stand.there in
-    let t = contour-there l.loop.invariant i.loop-test.true in
+    let t = contour_there l.loop.invariant i.loop-test.true in
     search rules
 
 slice-aggregate-put-line32 : tie.Need-slice-aggregate-put-line32 invariant-loop decreases-loop
@@ -66,17 +66,17 @@ slice-aggregate-put-line32-2 : tie.Need-slice-aggregate-put-line32-2 invariant-l
 slice-aggregate-put-line32-2 c = refl
 
 put-line32-requires : tie.Need-put-line32-requires invariant-loop decreases-loop
-unfolding contourName ascii
+unfolding contour_name ascii
 put-line32-requires c κs =
     let i = c.before.before.before.before.before.before.before in
-    line-room i.before.loop.invariant i.loop-test.true
+    line_room i.before.loop.invariant i.loop-test.true
 
 put-points-requires : tie.Need-put-points-requires invariant-loop decreases-loop
-unfolding contourName ascii
+unfolding contour_name ascii
 put-points-requires c κs =
     let p = c.before.before.before in
     let i = p.before.before.before.before.before.before.before.before in
-    points-ready i.before.loop.invariant i.loop-test.true
+    points_ready i.before.loop.invariant i.loop-test.true
     p.put-line32.ensures i.before.before.before.before.before.before.before.requires.stand.there
 
 add-c : tie.Need-overflow-add-c invariant-loop decreases-loop
@@ -86,18 +86,18 @@ loop-less : tie.Need-loop-smaller invariant-loop decreases-loop
 loop-less c = search rules
 
 loop-again : tie.Need-loop-preserved invariant-loop decreases-loop
-unfolding contourName ascii
+unfolding contour_name ascii
 loop-again c =
     let q = c.before.before in
     let p = q.before.before.before.before in
     let i = p.before.before.before.before.before.before.before.before in
-    contours-more i.before.loop.invariant i.loop-test.true p.put-line32.ensures q.put-points.ensures
+    contours_more i.before.loop.invariant i.loop-test.true p.put-line32.ensures q.put-points.ensures
 
 same_length : tie.Need-same-length invariant-loop decreases-loop
 same_length c = search rules
 
 returns : tie.Need-returns invariant-loop decreases-loop
-returns c = contours-all c.before.loop.invariant c.loop-test.false
+returns c = contours_all c.before.loop.invariant c.loop-test.false
 
 pub put-contours-spec : {M : Type 1} → statement M
 put-contours-spec =

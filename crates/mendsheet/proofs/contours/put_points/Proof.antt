@@ -4,21 +4,21 @@ use Prim.Native.Nat.{◌+◌, ◌-◌, ◌*◌}
 use native.Mathlib.Omega.{arith}
 use borrow.Author.Rules.{rules}
 use Rattle.rules.specs.Lines.{ascii}
-use Rattle.rules.specs.Sheet.{vName}
-use Rattle.rules.specs.MendSheet.{tracedLine}
-use Rattle.lines.specs.Pieces.{textsFrom, Pieces, pieces_room, pieces_more, pieces-all}
-use Rattle.mendsheet.proofs.SheetTexts.{points-begin}
+use Rattle.rules.specs.Sheet.{v_name}
+use Rattle.rules.specs.MendSheet.{traced_line}
+use Rattle.lines.specs.Pieces.{texts_from, Pieces, pieces_room, pieces_more, pieces_all}
+use Rattle.mendsheet.proofs.SheetTexts.{points_begin}
 use Rattle.mendsheet.proofs.contours.put_points.Statement.{statement}
 use Rattle.mendsheet.proofs.contours.put_points.Tie as tie
 
 abbrev invariant-loop : tie.invariant-loop
-invariant-loop out₀ at numbers first end to₀ k₀ t9 out to k = Pieces (tracedLine numbers) end (textsFrom (tracedLine numbers) first end) out₀ at out to k
+invariant-loop out₀ at numbers first end to₀ k₀ t9 out to k = Pieces (traced_line numbers) end (texts_from (traced_line numbers) first end) out₀ at out to k
 
 abbrev decreases-loop : tie.decreases-loop
 decreases-loop out₀ at numbers first end to₀ k₀ t9 out to k = end - k
 
 loop-holds : tie.Need-loop-init invariant-loop decreases-loop
-loop-holds c = points-begin c.before.before.requires
+loop-holds c = points_begin c.before.before.requires
 
 mul-from : tie.Need-overflow-mul-from invariant-loop decreases-loop
 mul-from c = search rules
@@ -42,7 +42,7 @@ part-put-line16-end : tie.Need-slice-bounds-put-line16-end invariant-loop decrea
 part-put-line16-end c = search rules
 
 put-line16-requires : tie.Need-put-line16-requires invariant-loop decreases-loop
-unfolding vName ascii tracedLine
+unfolding v_name ascii traced_line
 put-line16-requires c κs =
     let l = c.before.before.before.before in
     let e : l.loop.k * 4 + 4 - l.loop.k * 4 ≡ 4 = omega arith in
@@ -55,7 +55,7 @@ loop-less : tie.Need-loop-smaller invariant-loop decreases-loop
 loop-less c = search rules
 
 loop-again : tie.Need-loop-preserved invariant-loop decreases-loop
-unfolding vName ascii tracedLine
+unfolding v_name ascii traced_line
 loop-again c =
     let l = c.before.before.before.before.before.before.before in
     let e : l.loop.k * 4 + 4 - l.loop.k * 4 ≡ 4 = omega arith in
@@ -65,7 +65,7 @@ same_length : tie.Need-same-length invariant-loop decreases-loop
 same_length c = search rules
 
 returns : tie.Need-returns invariant-loop decreases-loop
-returns c = pieces-all c.before.loop.invariant c.loop-test.false
+returns c = pieces_all c.before.loop.invariant c.loop-test.false
 
 pub put-points-spec : {M : Type 1} → statement M
 put-points-spec =

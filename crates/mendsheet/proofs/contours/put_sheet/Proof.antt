@@ -1,26 +1,26 @@
 -- `mendsheet::contours::put_sheet` meets its contract: the heading, and the contours behind it. Assumes nothing.
 use borrow.Author.Rules.{rules}
-use Rattle.rules.specs.MendSheet.{sheetText}
-use Rattle.lines.specs.Pieces.{Going, going-begin, going-room, going_more, going_end}
-use Rattle.sheet.specs.Reading.{sheetOf, withLists}
-use Rattle.mendsheet.proofs.SheetTexts.{sheetTexts, sheet-texts}
+use Rattle.rules.specs.MendSheet.{sheet_text}
+use Rattle.lines.specs.Pieces.{Going, going_begin, going_room, going_more, going_end}
+use Rattle.sheet.specs.Reading.{sheet_of, with_lists}
+use Rattle.mendsheet.proofs.SheetTexts.{sheet_texts, sheet_texts_lem}
 use Rattle.mendsheet.proofs.contours.put_sheet.Statement.{statement}
 use Rattle.mendsheet.proofs.contours.put_sheet.Tie as tie
 
 -- the sheet of the lists that are lent, and its texts, of which none is printed
 begun : (s : tie.Start) → let a = s.args in
-    Going (sheetText (withLists (sheetOf a.x) a.lengths.now a.regions.now a.codes.now a.numbers.now)) a.out.now 0
-    (sheetTexts a.x a.lengths.now a.regions.now a.codes.now a.numbers.now) a.out.now 0
-begun s = let a = s.args in going-begin _ _ _ (sheet-texts a.x a.lengths.now a.regions.now a.codes.now a.numbers.now) s.requires.room
+    Going (sheet_text (with_lists (sheet_of a.x) a.lengths.now a.regions.now a.codes.now a.numbers.now)) a.out.now 0
+    (sheet_texts a.x a.lengths.now a.regions.now a.codes.now a.numbers.now) a.out.now 0
+begun s = let a = s.args in going_begin _ _ _ (sheet_texts_lem a.x a.lengths.now a.regions.now a.codes.now a.numbers.now) s.requires.room
 
 put-heading-requires : tie.Need-put-heading-requires
-put-heading-requires c κs = going-room (begun c.before.before.before.before.before.before)
+put-heading-requires c κs = going_room (begun c.before.before.before.before.before.before)
 
 put-contours-requires : tie.Need-put-contours-requires
 put-contours-requires c κs =
     let h = c.before.before.before in
     let s = h.before.before.before.before.before.before.before in
-    record { stand = s.requires.stand; room = going-room (going_more (begun s) h.put-heading.ensures) }
+    record { stand = s.requires.stand; room = going_room (going_more (begun s) h.put-heading.ensures) }
 
 same_length : tie.Need-same-length
 same_length c = search rules

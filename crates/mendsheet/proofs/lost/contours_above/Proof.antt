@@ -4,7 +4,7 @@ use Prim.Native.Nat.{◌-◌}
 use native.Mathlib.Omega.{arith}
 use lib.ListN.{length}
 use borrow.Author.Rules.{rules}
-use Rattle.mendsheet.proofs.Above.{Passed, passed_none, passed-all, passed-found, passed-more}
+use Rattle.mendsheet.proofs.Above.{Passed, passed_none, passed_all_lem, passed_found, passed_more}
 use Rattle.mendsheet.proofs.lost.contours_above.Statement.{statement}
 use Rattle.mendsheet.proofs.lost.contours_above.Tie as tie
 
@@ -27,7 +27,7 @@ add-result : tie.Need-overflow-add-result invariant-loop decreases-loop
 add-result c = search rules
 
 returns : tie.Need-returns invariant-loop decreases-loop
-returns c = (passed-found c.before.before.before.loop.invariant c.before.before.loop-test.true c.if1.true, omega arith)
+returns c = (passed_found c.before.before.before.loop.invariant c.before.before.loop-test.true c.if1.true, omega arith)
 
 mul-rest : tie.Need-overflow-mul-rest invariant-loop decreases-loop
 mul-rest c = search rules
@@ -45,10 +45,10 @@ loop-less : tie.Need-loop-smaller invariant-loop decreases-loop
 loop-less c = search rules
 
 loop-again : tie.Need-loop-preserved invariant-loop decreases-loop
-loop-again c = passed-more c.before.before.before.before.loop.invariant c.before.before.before.loop-test.true c.before.if1.false
+loop-again c = passed_more c.before.before.before.before.loop.invariant c.before.before.before.loop-test.true c.before.if1.false
 
 returns-2 : tie.Need-returns-2 invariant-loop decreases-loop
-returns-2 c = (passed-all c.before.loop.invariant c.loop-test.false, omega arith)
+returns-2 c = (passed_all_lem c.before.loop.invariant c.loop-test.false, omega arith)
 
 pub contours-above-spec : {M : Type 1} → statement M
 contours-above-spec =

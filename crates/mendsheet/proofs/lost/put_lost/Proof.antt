@@ -3,20 +3,20 @@ use mathlib.Core.Path.{refl}
 use Prim.Native.Nat.{◌-◌}
 use lib.ListN.{length, get_or}
 use borrow.Author.Rules.{rules}
-use Rattle.rules.specs.MendSheet.{lostLine}
-use Rattle.lines.specs.Pieces.{Pieces, pieces_none, pieces_room, pieces_more, pieces-all}
-use Rattle.mendsheet.specs.Print.{lostTextOf}
+use Rattle.rules.specs.MendSheet.{lost_line}
+use Rattle.lines.specs.Pieces.{Pieces, pieces_none, pieces_room, pieces_more, pieces_all}
+use Rattle.mendsheet.specs.Print.{lost_text_of}
 use Rattle.mendsheet.proofs.lost.put_lost.Statement.{statement}
 use Rattle.mendsheet.proofs.lost.put_lost.Tie as tie
 
 abbrev invariant-loop : tie.invariant-loop
-invariant-loop out₀ lengths lost to₀ i₀ out to i = Pieces (λ j. lostLine lengths (get_or lost j 0)) (length lost) (lostTextOf lengths lost) out₀ 0 out to i
+invariant-loop out₀ lengths lost to₀ i₀ out to i = Pieces (λ j. lost_line lengths (get_or lost j 0)) (length lost) (lost_text_of lengths lost) out₀ 0 out to i
 
 abbrev decreases-loop : tie.decreases-loop
 decreases-loop out₀ lengths lost to₀ i₀ out to i = length lost - i
 
 loop-holds : tie.Need-loop-init invariant-loop decreases-loop
-unfolding lostTextOf
+unfolding lost_text_of
 loop-holds c = pieces_none _ _ refl c.before.before.before.requires.room
 
 mul-put-lost-line : tie.Need-overflow-mul-put-lost-line invariant-loop decreases-loop
@@ -47,7 +47,7 @@ same_length : tie.Need-same-length invariant-loop decreases-loop
 same_length c = search rules
 
 returns : tie.Need-returns invariant-loop decreases-loop
-returns c = pieces-all c.before.loop.invariant c.loop-test.false
+returns c = pieces_all c.before.loop.invariant c.loop-test.false
 
 pub put-lost-spec : {M : Type 1} → statement M
 put-lost-spec =

@@ -1,20 +1,20 @@
 -- `mendsheet::text::lost_sheet` meets its contract: a refusal of the reading, or the lost points of the lists that were read. Assumes nothing.
 use native.Mathlib.Omega.{arith}
 use borrow.Author.Rules.{rules}
-use Rattle.rules.specs.Sheet.{readSheet}
-use Rattle.rules.specs.MendSheet.{lostLines, lostText}
-use Rattle.lines.specs.Printing.{printed-as}
+use Rattle.rules.specs.Sheet.{read_sheet}
+use Rattle.rules.specs.MendSheet.{lost_lines, lost_text}
+use Rattle.lines.specs.Printing.{printed_as}
 use Rattle.sheet.specs.Parts.{whole_part, whole_numbers}
-use Rattle.sheet.specs.Reading.{readBytes, ListsReady, TakenAs}
-use Rattle.sheet.specs.Room.{refused-room, printed-counts}
-use Rattle.sheet.specs.Texts.{bad-as, bad-text, taken_as, whole-answer}
-use Rattle.mendsheet.proofs.Taken.{losses-asked, lost-text}
+use Rattle.sheet.specs.Reading.{read_bytes, ListsReady, TakenAs}
+use Rattle.sheet.specs.Room.{refused_room, printed_counts}
+use Rattle.sheet.specs.Texts.{bad_as, bad_text, taken_as, whole_answer}
+use Rattle.mendsheet.proofs.Taken.{losses_asked, lost_text_lem}
 use Rattle.mendsheet.proofs.text.lost_sheet.Statement.{statement}
 use Rattle.mendsheet.proofs.text.lost_sheet.Tie as tie
 
 -- a sheet was read
 read : (c : tie.After-c) → let r = c.before.before.before.before.before.before in let s = r.before.before.before.before.before.before in
-    TakenAs (readBytes s.args.text.now) c.c.given.0.0 c.c.given.0.1.0 c.c.given.0.1.1.0
+    TakenAs (read_bytes s.args.text.now) c.c.given.0.0 c.c.given.0.1.0 c.c.given.0.1.1.0
     r.read-sheet.new.1.0 r.read-sheet.new.1.1.0 r.read-sheet.new.1.1.1.0 r.read-sheet.new.1.1.1.1.0
 read c = let r = c.before.before.before.before.before.before in taken_as r.read-sheet.ensures c.c.given.1
 
@@ -50,7 +50,7 @@ enum-known-n c = search rules
 put-refused-requires : tie.Need-put-refused-requires
 put-refused-requires c κs =
     let n = c.before.before in
-    omega (arith, refused-room n.n.given.0.0 n.n.given.0.1.0, c.put-refused-arg.given.0.1)
+    omega (arith, refused_room n.n.given.0.0 n.n.given.0.1.0, c.put-refused-arg.given.0.1)
 
 enum-known-c : tie.Need-enum-known-c
 enum-known-c c = search rules
@@ -88,24 +88,24 @@ slice-aggregate-put-losses-3 c =
 put-losses-requires : tie.Need-put-losses-requires
 put-losses-requires c κs =
     let x = c.before.before.before.before.before in
-    losses-asked (read x) (lists x.before.before.before.before.before.before) c.put-losses-arg.given.0.1
+    losses_asked (read x) (lists x.before.before.before.before.before.before) c.put-losses-arg.given.0.1
 
 returns : tie.Need-returns
-unfolding lostText
+unfolding lost_text
 returns c =
     let n = c.before.before.before in
     let r = n.before.before.before.before.before.before in
     let s = r.before.before.before.before.before.before in
-    whole-answer c.before.put-refused-arg.given.0.1 (refused-room n.n.given.0.0 n.n.given.0.1.0) c.Put-refused.ensures
-    (bad-text readSheet (λ t. lostLines t.job) s.args.text.now (bad-as r.read-sheet.ensures n.n.given.1))
+    whole_answer c.before.put-refused-arg.given.0.1 (refused_room n.n.given.0.0 n.n.given.0.1.0) c.Put-refused.ensures
+    (bad_text read_sheet (λ t. lost_lines t.job) s.args.text.now (bad_as r.read-sheet.ensures n.n.given.1))
 
 returns-2 : tie.Need-returns-2
 returns-2 c =
     let p = c.before.before in
     let x = p.before.before.before.before.before.before in
     let s = x.before.before.before.before.before.before.before.before.before.before.before.before in
-    let t = printed-as p.put-losses.ensures.0 (lost-text s.args.text.now (read x)) in
-    (t, printed-counts t p.put-losses.ensures.1 p.before.put-losses-arg.given.0.1)
+    let t = printed_as p.put-losses.ensures.0 (lost_text_lem s.args.text.now (read x)) in
+    (t, printed_counts t p.put-losses.ensures.1 p.before.put-losses-arg.given.0.1)
 
 pub lost-sheet-spec : {M : Type 1} → statement M
 lost-sheet-spec =

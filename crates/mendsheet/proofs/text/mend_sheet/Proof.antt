@@ -1,20 +1,20 @@
 -- `mendsheet::text::mend_sheet` meets its contract: a refusal of the reading, or the mended sheet of the lists that were read. Assumes nothing.
 use native.Mathlib.Omega.{arith}
 use borrow.Author.Rules.{rules}
-use Rattle.rules.specs.Sheet.{readSheet}
-use Rattle.rules.specs.MendSheet.{mendedSheet, sheetText, mendText}
-use Rattle.lines.specs.Printing.{printed-as}
+use Rattle.rules.specs.Sheet.{read_sheet}
+use Rattle.rules.specs.MendSheet.{mended_sheet, sheet_text, mend_text}
+use Rattle.lines.specs.Printing.{printed_as}
 use Rattle.sheet.specs.Parts.{whole_part, whole_numbers}
-use Rattle.sheet.specs.Reading.{readBytes, ListsReady, TakenAs}
-use Rattle.sheet.specs.Room.{refused-room, printed-counts}
-use Rattle.sheet.specs.Texts.{bad-as, bad-text, taken_as, whole-answer}
-use Rattle.mendsheet.proofs.Taken.{mend-ready, mend-text}
+use Rattle.sheet.specs.Reading.{read_bytes, ListsReady, TakenAs}
+use Rattle.sheet.specs.Room.{refused_room, printed_counts}
+use Rattle.sheet.specs.Texts.{bad_as, bad_text, taken_as, whole_answer}
+use Rattle.mendsheet.proofs.Taken.{mend_ready, mend_text_lem}
 use Rattle.mendsheet.proofs.text.mend_sheet.Statement.{statement}
 use Rattle.mendsheet.proofs.text.mend_sheet.Tie as tie
 
 -- a sheet was read
 read : (c : tie.After-x) → let r = c.before.before.before.before.before.before in let s = r.before.before.before.before.before.before in
-    TakenAs (readBytes s.args.text.now) c.x.given.0.0 c.x.given.0.1.0 c.x.given.0.1.1.0
+    TakenAs (read_bytes s.args.text.now) c.x.given.0.0 c.x.given.0.1.0 c.x.given.0.1.1.0
     r.read-sheet.new.1.0 r.read-sheet.new.1.1.0 r.read-sheet.new.1.1.1.0 r.read-sheet.new.1.1.1.1.0
 read c = let r = c.before.before.before.before.before.before in taken_as r.read-sheet.ensures c.x.given.1
 
@@ -50,7 +50,7 @@ enum-known-n c = search rules
 put-refused-requires : tie.Need-put-refused-requires
 put-refused-requires c κs =
     let n = c.before.before in
-    omega (arith, refused-room n.n.given.0.0 n.n.given.0.1.0, c.put-refused-arg.given.0.1)
+    omega (arith, refused_room n.n.given.0.0 n.n.given.0.1.0, c.put-refused-arg.given.0.1)
 
 enum-known-x : tie.Need-enum-known-x
 enum-known-x c = search rules
@@ -97,24 +97,24 @@ slice-aggregate-put-mended-4 c =
 put-mended-requires : tie.Need-put-mended-requires
 put-mended-requires c κs =
     let x = c.before.before.before.before.before.before in
-    mend-ready (read x) (lists x.before.before.before.before.before.before) c.put-mended-arg.given.0.1
+    mend_ready (read x) (lists x.before.before.before.before.before.before) c.put-mended-arg.given.0.1
 
 returns : tie.Need-returns
-unfolding mendText
+unfolding mend_text
 returns c =
     let n = c.before.before.before in
     let r = n.before.before.before.before.before.before in
     let s = r.before.before.before.before.before.before in
-    whole-answer c.before.put-refused-arg.given.0.1 (refused-room n.n.given.0.0 n.n.given.0.1.0) c.Put-refused.ensures
-    (bad-text readSheet (λ t. sheetText (mendedSheet t)) s.args.text.now (bad-as r.read-sheet.ensures n.n.given.1))
+    whole_answer c.before.put-refused-arg.given.0.1 (refused_room n.n.given.0.0 n.n.given.0.1.0) c.Put-refused.ensures
+    (bad_text read_sheet (λ t. sheet_text (mended_sheet t)) s.args.text.now (bad_as r.read-sheet.ensures n.n.given.1))
 
 returns-2 : tie.Need-returns-2
 returns-2 c =
     let p = c.before.before in
     let x = p.before.before.before.before.before.before.before in
     let s = x.before.before.before.before.before.before.before.before.before.before.before.before in
-    let t = printed-as p.put-mended.ensures.0 (mend-text s.args.text.now (read x)) in
-    (t, printed-counts t p.put-mended.ensures.1 p.before.put-mended-arg.given.0.1)
+    let t = printed_as p.put-mended.ensures.0 (mend_text_lem s.args.text.now (read x)) in
+    (t, printed_counts t p.put-mended.ensures.1 p.before.put-mended-arg.given.0.1)
 
 pub mend-sheet-spec : {M : Type 1} → statement M
 mend-sheet-spec =

@@ -2,7 +2,7 @@
 use Prim.Native.Nat.{◌-◌}
 use native.Mathlib.Omega.{arith}
 use Rattle.mem.specs.Packed.{laid_none}
-use Rattle.outputs.proofs.Copies.{LinksCopied, links-fit, link-copied, links-copied}
+use Rattle.outputs.proofs.Copies.{LinksCopied, links_fit, link_copied, links_copied}
 use borrow.Author.Rules.{rules}
 use Rattle.outputs.proofs.rows.copy_links.Statement.{statement}
 use Rattle.outputs.proofs.rows.copy_links.Tie as tie
@@ -27,11 +27,11 @@ add-put-links c = search rules
 
 -- src/rows.rt:60:55
 mul-put-links-2 : tie.Need-overflow-mul-put-links-2 invariant-loop decreases-loop
-mul-put-links-2 c = record { fits = omega (arith, links-fit c.before.before.before.before.before.requires c.before.before.loop.invariant c.before.loop-test.true) }
+mul-put-links-2 c = record { fits = omega (arith, links_fit c.before.before.before.before.before.requires c.before.before.loop.invariant c.before.loop-test.true) }
 
 -- src/rows.rt:60:9
 put-links-requires : tie.Need-put-links-requires invariant-loop decreases-loop
-put-links-requires c κs = (omega (arith, c.before.before.before.before.before.requires.stand, c.before.before.before.before.before.requires.most, c.before.loop-test.true), links-fit c.before.before.before.before.before.requires c.before.before.loop.invariant c.before.loop-test.true)
+put-links-requires c κs = (omega (arith, c.before.before.before.before.before.requires.stand, c.before.before.before.before.before.requires.most, c.before.loop-test.true), links_fit c.before.before.before.before.before.requires c.before.before.loop.invariant c.before.loop-test.true)
 
 -- src/rows.rt:61:9
 add-i : tie.Need-overflow-add-i invariant-loop decreases-loop
@@ -43,7 +43,7 @@ loop-less c = search rules
 
 -- src/rows.rt:59:5
 loop-again : tie.Need-loop-preserved invariant-loop decreases-loop
-loop-again c = link-copied c.before.before.before.before.before.before.before.before.requires c.before.before.before.before.before.loop.invariant c.before.before.before.before.loop-test.true c.before.before.put-links.ensures
+loop-again c = link_copied c.before.before.before.before.before.before.before.before.requires c.before.before.before.before.before.loop.invariant c.before.before.before.before.loop-test.true c.before.before.put-links.ensures
 
 -- src/rows.rt:54:1
 same_length : tie.Need-same-length invariant-loop decreases-loop
@@ -51,7 +51,7 @@ same_length c = search rules
 
 -- src/rows.rt:54:1
 returns : tie.Need-returns invariant-loop decreases-loop
-returns c = links-copied c.before.before.before.before.requires c.before.loop.invariant c.loop-test.false
+returns c = links_copied c.before.before.before.before.requires c.before.loop.invariant c.loop-test.false
 
 pub copy-links-spec : {M : Type 1} → statement M
 copy-links-spec =

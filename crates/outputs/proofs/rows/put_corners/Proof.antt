@@ -4,9 +4,9 @@ use native.Mathlib.Omega.{arith}
 use Prim.Native.Nat.{◌-◌}
 use lib.ListN.{length, get_or}
 use Rattle.mem.specs.Slice.{splice}
-use Rattle.mem.specs.Tab.{Filled, filled_none, filled_more, filled-all, tab-take}
-use Rattle.records.specs.Layout.{mostCorners}
-use Rattle.outputs.proofs.Words.{corners-row}
+use Rattle.mem.specs.Tab.{Filled, filled_none, filled_more, filled_all, tab_take}
+use Rattle.records.specs.Layout.{most_corners}
+use Rattle.outputs.proofs.Words.{corners_row}
 use borrow.Author.Rules.{rules}
 use Rattle.outputs.proofs.rows.put_corners.Statement.{statement}
 use Rattle.outputs.proofs.rows.put_corners.Tie as tie
@@ -17,8 +17,8 @@ invariant-loop out₀ to n p k₀ out k = Filled out₀ to (λ j. get_or p.corne
 abbrev decreases-loop : tie.decreases-loop
 decreases-loop out₀ to n p k₀ out k = n - k
 
-long-p : (s : tie.Start invariant-loop decreases-loop) → length s.args.t3.corners ≡ mostCorners
-long-p s = search rules
+long_p : (s : tie.Start invariant-loop decreases-loop) → length s.args.t3.corners ≡ most_corners
+long_p s = search rules
 
 -- src/rows.rt:22:5
 loop-holds : tie.Need-loop-init invariant-loop decreases-loop
@@ -68,8 +68,8 @@ same_length c = search rules
 returns : tie.Need-returns invariant-loop decreases-loop
 returns c =
     let s = c.before.before in
-    filled-all c.before.loop.invariant (omega arith)
-    ∙ ap (splice s.args.out.now s.args.to) (tab-take s.args.t3.corners s.args.n 0 (omega (arith, long-p s, s.requires.most)) ∙ corners-row s.requires (long-p s))
+    filled_all c.before.loop.invariant (omega arith)
+    ∙ ap (splice s.args.out.now s.args.to) (tab_take s.args.t3.corners s.args.n 0 (omega (arith, long_p s, s.requires.most)) ∙ corners_row s.requires (long_p s))
 
 pub put-corners-spec : {M : Type 1} → statement M
 put-corners-spec =

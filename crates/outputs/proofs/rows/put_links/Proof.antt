@@ -4,7 +4,7 @@ use Prim.Native.Nat.{◌+◌, ◌-◌}
 use native.Mathlib.Omega.{arith}
 use lib.ListN.{get_or}
 use Rattle.mem.specs.Slice.{splice}
-use Rattle.mem.specs.Tab.{Filled, filled_none, filled_more, filled-all, tab-view}
+use Rattle.mem.specs.Tab.{Filled, filled_none, filled_more, filled_all, tab_view}
 use borrow.Author.Rules.{rules}
 use Rattle.outputs.proofs.rows.put_links.Statement.{statement}
 use Rattle.outputs.proofs.rows.put_links.Tie as tie
@@ -63,7 +63,7 @@ same_length c = search rules
 returns : tie.Need-returns invariant-loop decreases-loop
 returns c =
     let s = c.before.before in
-    filled-all c.before.loop.invariant c.loop-test.false ∙ ap (splice s.args.out.now s.args.to) (tab-view s.args.work.now s.args.at s.args.n 0 (search rules))
+    filled_all c.before.loop.invariant c.loop-test.false ∙ ap (splice s.args.out.now s.args.to) (tab_view s.args.work.now s.args.at s.args.n 0 (search rules))
 
 pub put-links-spec : {M : Type 1} → statement M
 put-links-spec =

@@ -3,7 +3,7 @@ use mathlib.Core.Path.{refl, ap, ◌∙◌}
 use Prim.Native.Nat.{◌-◌}
 use native.Mathlib.Omega.{arith}
 use Rattle.mem.specs.Slice.{splice}
-use Rattle.mem.specs.Tab.{Filled, filled_none, filled_more, filled-all, tab-const}
+use Rattle.mem.specs.Tab.{Filled, filled_none, filled_more, filled_all, tab_const}
 use borrow.Author.Rules.{rules}
 use Rattle.outputs.proofs.tags.clear_flags.Statement.{statement}
 use Rattle.outputs.proofs.tags.clear_flags.Tie as tie
@@ -44,7 +44,7 @@ same_length c = search rules
 
 -- src/tags.rt:36:1
 returns : tie.Need-returns invariant-loop decreases-loop
-returns c = filled-all c.before.loop.invariant c.loop-test.false ∙ ap (splice c.before.before.args.out.now 0) (tab-const _ 0)
+returns c = filled_all c.before.loop.invariant c.loop-test.false ∙ ap (splice c.before.before.args.out.now 0) (tab_const _ 0)
 
 pub clear-flags-spec : {M : Type 1} → statement M
 clear-flags-spec =

@@ -3,16 +3,16 @@ use mathlib.Core.Path.{ap, ◌∙◌}
 use native.Mathlib.Omega.{arith}
 use Prim.Native.Nat.{◌-◌}
 use Rattle.mem.specs.Slice.{splice}
-use Rattle.mem.specs.Tab.{Filled, filled_none, filled_more, filled-all}
-use Rattle.rules.specs.Mesh.{polygonAt}
-use Rattle.records.specs.Layout.{polygonsAt}
-use Rattle.outputs.proofs.Words.{code_is, code-narrow, each-polygon}
+use Rattle.mem.specs.Tab.{Filled, filled_none, filled_more, filled_all}
+use Rattle.rules.specs.Mesh.{polygon_at}
+use Rattle.records.specs.Layout.{polygons_at}
+use Rattle.outputs.proofs.Words.{code_is, code_narrow, each_polygon}
 use borrow.Author.Rules.{rules}
 use Rattle.outputs.proofs.tags.copy_codes.Statement.{statement}
 use Rattle.outputs.proofs.tags.copy_codes.Tie as tie
 
 abbrev invariant-loop : tie.invariant-loop
-invariant-loop work o np out₀ i₀ out i = Filled out₀ 0 (λ j. (polygonAt (polygonsAt work o np) j).code) np out i
+invariant-loop work o np out₀ i₀ out i = Filled out₀ 0 (λ j. (polygon_at (polygons_at work o np) j).code) np out i
 
 abbrev decreases-loop : tie.decreases-loop
 decreases-loop work o np out₀ i₀ out i = np - i
@@ -43,7 +43,7 @@ shared-slice-read-out c = search rules
 
 -- src/tags.rt:30:18
 cast-out : tie.Need-overflow-cast-out invariant-loop decreases-loop
-cast-out c = record { fits = code-narrow c.before.before.before.requires _ c.before.loop-test.true }
+cast-out c = record { fits = code_narrow c.before.before.before.requires _ c.before.loop-test.true }
 
 -- src/tags.rt:30:9
 slice-write-out : tie.Need-slice-write-out invariant-loop decreases-loop
@@ -67,7 +67,7 @@ same_length c = search rules
 
 -- src/tags.rt:24:1
 returns : tie.Need-returns invariant-loop decreases-loop
-returns c = filled-all c.before.loop.invariant c.loop-test.false ∙ ap (splice c.before.before.args.out.now 0) (each-polygon (λ p. p.code) _ _ _)
+returns c = filled_all c.before.loop.invariant c.loop-test.false ∙ ap (splice c.before.before.args.out.now 0) (each_polygon (λ p. p.code) _ _ _)
 
 pub copy-codes-spec : {M : Type 1} → statement M
 copy-codes-spec =

@@ -3,16 +3,16 @@ use mathlib.Core.Path.{ap, ◌∙◌}
 use native.Mathlib.Omega.{arith}
 use Prim.Native.Nat.{◌-◌}
 use Rattle.mem.specs.Slice.{splice}
-use Rattle.mem.specs.Tab.{Filled, filled_none, filled_more, filled-all}
-use Rattle.rules.specs.Mesh.{polygonAt}
-use Rattle.records.specs.Layout.{polygonsAt}
-use Rattle.outputs.proofs.Words.{region-is, region-narrow, each-polygon}
+use Rattle.mem.specs.Tab.{Filled, filled_none, filled_more, filled_all}
+use Rattle.rules.specs.Mesh.{polygon_at}
+use Rattle.records.specs.Layout.{polygons_at}
+use Rattle.outputs.proofs.Words.{region_is, region_narrow, each_polygon}
 use borrow.Author.Rules.{rules}
 use Rattle.outputs.proofs.tags.copy_regions.Statement.{statement}
 use Rattle.outputs.proofs.tags.copy_regions.Tie as tie
 
 abbrev invariant-loop : tie.invariant-loop
-invariant-loop work o np out₀ i₀ out i = Filled out₀ 0 (λ j. (polygonAt (polygonsAt work o np) j).region) np out i
+invariant-loop work o np out₀ i₀ out i = Filled out₀ 0 (λ j. (polygon_at (polygons_at work o np) j).region) np out i
 
 abbrev decreases-loop : tie.decreases-loop
 decreases-loop work o np out₀ i₀ out i = np - i
@@ -43,7 +43,7 @@ shared-slice-read-out c = search rules
 
 -- src/tags.rt:18:18
 cast-out : tie.Need-overflow-cast-out invariant-loop decreases-loop
-cast-out c = record { fits = region-narrow c.before.before.before.requires _ c.before.loop-test.true }
+cast-out c = record { fits = region_narrow c.before.before.before.requires _ c.before.loop-test.true }
 
 -- src/tags.rt:18:9
 mul-out-3 : tie.Need-overflow-mul-out-3 invariant-loop decreases-loop
@@ -63,7 +63,7 @@ loop-less c = search rules
 
 -- src/tags.rt:17:5
 loop-again : tie.Need-loop-preserved invariant-loop decreases-loop
-loop-again c = filled_more c.before.before.loop.invariant _ _ (omega arith) (region-is _ _ _ _ c.before.loop-test.true) c.before.loop-test.true
+loop-again c = filled_more c.before.before.loop.invariant _ _ (omega arith) (region_is _ _ _ _ c.before.loop-test.true) c.before.loop-test.true
 
 -- src/tags.rt:12:1
 same_length : tie.Need-same-length invariant-loop decreases-loop
@@ -71,7 +71,7 @@ same_length c = search rules
 
 -- src/tags.rt:12:1
 returns : tie.Need-returns invariant-loop decreases-loop
-returns c = filled-all c.before.loop.invariant c.loop-test.false ∙ ap (splice c.before.before.args.out.now 0) (each-polygon (λ p. p.region) _ _ _)
+returns c = filled_all c.before.loop.invariant c.loop-test.false ∙ ap (splice c.before.before.args.out.now 0) (each_polygon (λ p. p.region) _ _ _)
 
 pub copy-regions-spec : {M : Type 1} → statement M
 copy-regions-spec =

@@ -3,8 +3,8 @@ use native.Mathlib.Omega.{arith}
 use Prim.Native.Nat.{◌-◌}
 use lib.ListN.{length-set}
 use Rattle.mem.specs.Packed.{laid_none}
-use Rattle.outputs.proofs.Words.{vertex-narrow}
-use Rattle.outputs.proofs.Copies.{VerticesCopied, vertex-copied, vertices-copied}
+use Rattle.outputs.proofs.Words.{vertex_narrow}
+use Rattle.outputs.proofs.Copies.{VerticesCopied, vertex_copied, vertices_copied}
 use borrow.Author.Rules.{rules}
 use Rattle.outputs.proofs.vertices.copy_vertices.Statement.{statement}
 use Rattle.outputs.proofs.vertices.copy_vertices.Tie as tie
@@ -41,7 +41,7 @@ shared-slice-read-out c = search rules
 
 -- src/vertices.rt:22:19
 cast-out : tie.Need-overflow-cast-out invariant-loop decreases-loop
-cast-out c = record { fits = omega (arith, vertex-narrow c.before.before.before.requires _ c.before.loop-test.true) }
+cast-out c = record { fits = omega (arith, vertex_narrow c.before.before.before.requires _ c.before.loop-test.true) }
 
 -- src/vertices.rt:22:9
 mul-out-2 : tie.Need-overflow-mul-out-2 invariant-loop decreases-loop
@@ -65,7 +65,7 @@ shared-slice-read-out-2 c = search rules
 
 -- src/vertices.rt:23:23
 cast-out-2 : tie.Need-overflow-cast-out-2 invariant-loop decreases-loop
-cast-out-2 c = record { fits = omega (arith, vertex-narrow c.before.before.before.before.requires _ c.before.before.loop-test.true) }
+cast-out-2 c = record { fits = omega (arith, vertex_narrow c.before.before.before.before.requires _ c.before.before.loop-test.true) }
 
 -- src/vertices.rt:23:13
 add-out-2 : tie.Need-overflow-add-out-2 invariant-loop decreases-loop
@@ -93,7 +93,7 @@ shared-slice-read-out-3 c = search rules
 
 -- src/vertices.rt:24:23
 cast-out-3 : tie.Need-overflow-cast-out-3 invariant-loop decreases-loop
-cast-out-3 c = record { fits = omega (arith, vertex-narrow c.before.before.before.before.before.requires _ c.before.before.before.loop-test.true) }
+cast-out-3 c = record { fits = omega (arith, vertex_narrow c.before.before.before.before.before.requires _ c.before.before.before.loop-test.true) }
 
 -- src/vertices.rt:24:13
 add-out-4 : tie.Need-overflow-add-out-4 invariant-loop decreases-loop
@@ -117,7 +117,7 @@ loop-less c = search rules
 
 -- src/vertices.rt:19:5
 loop-again : tie.Need-loop-preserved invariant-loop decreases-loop
-loop-again c = vertex-copied _ _ _ c.before.before.before.before.loop.invariant c.before.before.before.loop-test.true
+loop-again c = vertex_copied _ _ _ c.before.before.before.before.loop.invariant c.before.before.before.loop-test.true
 
 -- src/vertices.rt:14:1
 same_length : tie.Need-same-length invariant-loop decreases-loop
@@ -125,7 +125,7 @@ same_length c = search rules
 
 -- src/vertices.rt:14:1
 returns : tie.Need-returns invariant-loop decreases-loop
-returns c = vertices-copied _ _ _ c.before.loop.invariant c.loop-test.false
+returns c = vertices_copied _ _ _ c.before.loop.invariant c.loop-test.false
 
 pub copy-vertices-spec : {M : Type 1} → statement M
 copy-vertices-spec =

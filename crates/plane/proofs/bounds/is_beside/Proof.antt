@@ -1,6 +1,6 @@
 -- `plane::bounds::is_beside` meets its contract: each return is the definition with the tests that it passed known. Assumes nothing.
 use Rattle.std.proofs.Common.{rules}
-use Rattle.plane.specs.Boxes.{isBeside}
+use Rattle.plane.specs.Boxes.{is_beside}
 use Rattle.plane.proofs.Chains.{of_two, of_three, of_four}
 use Rattle.plane.proofs.bounds.is_beside.Statement.{statement}
 use Rattle.plane.proofs.bounds.is_beside.Tie as tie
@@ -9,14 +9,14 @@ are-above-requires : tie.Need-are-above-requires
 are-above-requires c κs = search rules
 
 returns : tie.Need-returns
-unfolding isBeside
+unfolding is_beside
 returns c = of_four c.before.are-above.ensures c.if1.true _ _ _
 
 are-below-requires : tie.Need-are-below-requires
 are-below-requires c κs = search rules
 
 returns-2 : tie.Need-returns-2
-unfolding isBeside
+unfolding is_beside
 returns-2 c =
     let first = c.before.before in
     rw (← first.before.are-above.ensures, first.if1.false) (of_three c.before.are-below.ensures c.if2.true _ _)
@@ -25,7 +25,7 @@ are-above-requires-2 : tie.Need-are-above-requires-2
 are-above-requires-2 c κs = search rules
 
 returns-3 : tie.Need-returns-3
-unfolding isBeside
+unfolding is_beside
 returns-3 c =
     let second = c.before.before in
     let first = second.before.before in
@@ -36,7 +36,7 @@ are-below-requires-2 : tie.Need-are-below-requires-2
 are-below-requires-2 c κs = search rules
 
 returns-4 : tie.Need-returns-4
-unfolding isBeside
+unfolding is_beside
 returns-4 c =
     let third = c.before in
     let second = third.before.before in

@@ -1,5 +1,5 @@
 -- `plane::distance::distance_squared` meets its contract: the definition has the code's operations in the code's order. Assumes nothing.
-use Rattle.rules.specs.Distance.{distanceSquared, toSegment}
+use Rattle.rules.specs.Distance.{distance_squared, to_segment}
 use Rattle.std.proofs.Common.{rules}
 use Rattle.plane.proofs.distance.distance_squared.Statement.{statement}
 use Rattle.plane.proofs.distance.distance_squared.Tie as tie
@@ -29,7 +29,7 @@ clamp01-requires : tie.Need-clamp01-requires
 clamp01-requires c κs = search rules
 
 returns : tie.Need-returns
-unfolding distanceSquared toSegment
+unfolding distance_squared to_segment
 returns c = rw (c.clamp01.ensures, c.before.scaled-down.ensures)
 
 pub distance-squared-spec : {M : Type 1} → statement M

@@ -4,7 +4,7 @@ use Rattle.std.proofs.Common.{◌≡◌, ℕ, ◌+◌, ◌-◌, List, sym, arith
 use Rattle.ints.specs.Machine.{Reads, reads_of}
 use Rattle.rules.specs.Plane.{D}
 use Rattle.plane.specs.Points.{point_of, GridWords}
-use Rattle.plane.proofs.Areas.{Summed, area-few, summed-none, summed-all, cast-needs, add-needs, summed-more}
+use Rattle.plane.proofs.Areas.{Summed, area_few, summed_none, summed_all, cast_needs, add_needs, summed_more}
 use Rattle.plane.proofs.measure.doubled_area.Statement.{statement}
 use Rattle.plane.proofs.measure.doubled_area.Tie as tie
 
@@ -37,13 +37,13 @@ added c =
     c.area2.ensures
 
 returns : tie.Need-returns invariant-loop decreases-loop
-returns c = sym (area-few c.before.before.args.pts.now c.if1.true)
+returns c = sym (area_few c.before.before.args.pts.now c.if1.true)
 
 point-at-requires : tie.Need-point-at-requires invariant-loop decreases-loop
 point-at-requires c κs = search rules
 
 loop-holds : tie.Need-loop-init invariant-loop decreases-loop
-loop-holds c = summed-none c.before.before.before.args.pts.now c.before.if1.false
+loop-holds c = summed_none c.before.before.before.args.pts.now c.before.if1.false
 
 add-loop : tie.Need-overflow-add-loop invariant-loop decreases-loop
 add-loop c = search rules
@@ -61,10 +61,10 @@ area2-requires : tie.Need-area2-requires invariant-loop decreases-loop
 area2-requires c κs = search rules
 
 cast-sum : tie.Need-overflow-cast-sum invariant-loop decreases-loop
-cast-sum c = cast-needs (given c) (so_far c) (bits c) (added c)
+cast-sum c = cast_needs (given c) (so_far c) (bits c) (added c)
 
 add-sum : tie.Need-overflow-add-sum invariant-loop decreases-loop
-add-sum c = add-needs (given c) (so_far c) (bits c) (added c)
+add-sum c = add_needs (given c) (so_far c) (bits c) (added c)
 
 add-k : tie.Need-overflow-add-k invariant-loop decreases-loop
 add-k c = search rules
@@ -73,10 +73,10 @@ loop-less : tie.Need-loop-smaller invariant-loop decreases-loop
 loop-less c = search rules
 
 loop-again : tie.Need-loop-preserved invariant-loop decreases-loop
-loop-again c = summed-more (given c) (so_far c) (bits c) (added c) (omega arith)
+loop-again c = summed_more (given c) (so_far c) (bits c) (added c) (omega arith)
 
 returns-2 : tie.Need-returns-2 invariant-loop decreases-loop
-returns-2 c = summed-all c.before.loop.invariant c.loop-test.false
+returns-2 c = summed_all c.before.loop.invariant c.loop-test.false
 
 pub doubled-area-spec : {M : Type 1} → statement M
 doubled-area-spec =

@@ -2,7 +2,7 @@
 -- Assumes nothing.
 use Rattle.std.proofs.Common.{refl, rules}
 use Rattle.plane.specs.Points.{point_of}
-use Rattle.plane.proofs.Sizes.{on-grid, word_fits}
+use Rattle.plane.proofs.Sizes.{on_grid, word_fits}
 use Rattle.plane.proofs.measure.point_at.Statement.{statement}
 use Rattle.plane.proofs.measure.point_at.Tie as tie
 
@@ -35,7 +35,7 @@ cast-t13 c = word_fits c.before.before.requires.0 _
 
 returns : tie.Need-returns
 unfolding point_of
-returns c = (refl, on-grid c.before.before.requires.0 c.before.before.args.k)
+returns c = (refl, on_grid c.before.before.requires.0 c.before.before.args.k)
 
 pub point-at-spec : {M : Type 1} → statement M
 point-at-spec =

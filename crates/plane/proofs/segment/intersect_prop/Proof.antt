@@ -1,6 +1,6 @@
 -- `plane::segment::intersect_prop` meets its contract: each return is the definition with the tests that it passed known. Assumes nothing.
 use Rattle.std.proofs.Common.{rules}
-use Rattle.rules.specs.Plane.{intersectProp}
+use Rattle.rules.specs.Plane.{intersect_prop}
 use Rattle.plane.proofs.Chains.{of_one, of_two, of_three, of_four, refused}
 use Rattle.plane.proofs.segment.intersect_prop.Statement.{statement}
 use Rattle.plane.proofs.segment.intersect_prop.Tie as tie
@@ -9,14 +9,14 @@ collinear-requires : tie.Need-collinear-requires
 collinear-requires c κs = search rules
 
 returns : tie.Need-returns
-unfolding intersectProp
+unfolding intersect_prop
 returns c = refused _ (of_four c.before.collinear.ensures c.if1.true _ _ _)
 
 collinear-requires-2 : tie.Need-collinear-requires-2
 collinear-requires-2 c κs = search rules
 
 returns-2 : tie.Need-returns-2
-unfolding intersectProp
+unfolding intersect_prop
 returns-2 c =
     rw (← c.before.before.before.collinear.ensures, c.before.before.if1.false)
     (refused _ (of_three c.before.collinear2.ensures c.if2.true _ _))
@@ -25,7 +25,7 @@ collinear-requires-3 : tie.Need-collinear-requires-3
 collinear-requires-3 c κs = search rules
 
 returns-3 : tie.Need-returns-3
-unfolding intersectProp
+unfolding intersect_prop
 returns-3 c =
     rw (
       ← c.before.before.before.before.before.collinear.ensures,
@@ -39,7 +39,7 @@ collinear-requires-4 : tie.Need-collinear-requires-4
 collinear-requires-4 c κs = search rules
 
 returns-4 : tie.Need-returns-4
-unfolding intersectProp
+unfolding intersect_prop
 returns-4 c =
     rw (
       ← c.before.before.before.before.before.before.before.collinear.ensures,
@@ -64,7 +64,7 @@ is-left-requires-4 : tie.Need-is-left-requires-4
 is-left-requires-4 c κs = search rules
 
 returns-5 : tie.Need-returns-5
-unfolding intersectProp
+unfolding intersect_prop
 returns-5 c =
     rw (
       ← c.before.before.before.before.before.before.before.before.before.before.before.collinear.ensures,

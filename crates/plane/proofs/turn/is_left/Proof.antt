@@ -1,7 +1,7 @@
 -- `plane::turn::is_left` meets its contract: D fits an i32, so that its bits are below 0 where it is. Assumes nothing.
 use Rattle.std.proofs.Common.{rules}
-use Rattle.ints.specs.Machine.{reads-result, lt-reads}
-use Rattle.rules.specs.Plane.{isLeft}
+use Rattle.ints.specs.Machine.{reads_result, lt_reads}
+use Rattle.rules.specs.Plane.{is_left}
 use Rattle.plane.proofs.Sizes.{nought}
 use Rattle.plane.proofs.turn.is_left.Statement.{statement}
 use Rattle.plane.proofs.turn.is_left.Tie as tie
@@ -10,8 +10,8 @@ area2-requires : tie.Need-area2-requires
 area2-requires c κs = search rules
 
 returns : tie.Need-returns
-unfolding isLeft
-returns c = lt-reads (reads-result (record { sfits = c.area2.type-inv }) c.area2.ensures) nought
+unfolding is_left
+returns c = lt_reads (reads_result (record { sfits = c.area2.type-inv }) c.area2.ensures) nought
 
 pub is-left-spec : {M : Type 1} → statement M
 is-left-spec = tie.close (tie.spec area2-requires returns)

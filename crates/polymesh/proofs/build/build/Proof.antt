@@ -1,23 +1,23 @@
 -- `polymesh::build::build` meets its contract: the mesh is made in the words that it uses, and all that were lent become zeros. Assumes nothing.
 use mathlib.Core.Path.{sym, ◌∙◌}
 use lib.Seq.{length-take-le}
-use Rattle.polymesh.proofs.Gathers.{admitted-sized}
-use Rattle.polymesh.proofs.Builds.{used-fits, make-ready, made-built}
+use Rattle.polymesh.proofs.Gathers.{admitted_sized}
+use Rattle.polymesh.proofs.Builds.{used_fits, make_ready, made_built}
 use borrow.Author.Rules.{rules}
 use Rattle.polymesh.proofs.build.build.Statement.{statement}
 use Rattle.polymesh.proofs.build.build.Tie as tie
 
 used-words-requires : tie.Need-used-words-requires
-used-words-requires c κs = admitted-sized c.before.before.before.before.before.before.before.before.before.before.before.requires.1.job
+used-words-requires c κs = admitted_sized c.before.before.before.before.before.before.before.before.before.before.before.requires.1.job
 
 slice-relend-prefix-make-mesh : tie.Need-slice-relend-prefix-make-mesh
-slice-relend-prefix-make-mesh c = used-fits c.before.before.before.before.before.before.before.before.before.before.before.before.before.before.before.before.before.before.requires.1 c.before.before.before.before.before.before.used-words.ensures
+slice-relend-prefix-make-mesh c = used_fits c.before.before.before.before.before.before.before.before.before.before.before.before.before.before.before.before.before.before.requires.1 c.before.before.before.before.before.before.used-words.ensures
 
 slice-aggregate-make-mesh : tie.Need-slice-aggregate-make-mesh
-slice-aggregate-make-mesh c = sym (length-take-le _ c.before.before.before.before.before.before.before.before.before.before.before.before.before.before.before.before.before.before.before.args.work.now (used-fits c.before.before.before.before.before.before.before.before.before.before.before.before.before.before.before.before.before.before.before.requires.1 c.before.before.before.before.before.before.before.used-words.ensures))
+slice-aggregate-make-mesh c = sym (length-take-le _ c.before.before.before.before.before.before.before.before.before.before.before.before.before.before.before.before.before.before.before.args.work.now (used_fits c.before.before.before.before.before.before.before.before.before.before.before.before.before.before.before.before.before.before.before.requires.1 c.before.before.before.before.before.before.before.used-words.ensures))
 
 make-mesh-requires : tie.Need-make-mesh-requires
-make-mesh-requires c κs = let s = c.before.before.before.before.before.before.before.before.before.before.before.before.before.before.before.before.before.before.before in let n = c.before.before.before.before.before.before.before.used-words.ensures in (s.requires.0, make-ready s.requires.1 _ (length-take-le _ s.args.work.now (used-fits s.requires.1 n) ∙ n))
+make-mesh-requires c κs = let s = c.before.before.before.before.before.before.before.before.before.before.before.before.before.before.before.before.before.before.before in let n = c.before.before.before.before.before.before.before.used-words.ensures in (s.requires.0, make_ready s.requires.1 _ (length-take-le _ s.args.work.now (used_fits s.requires.1 n) ∙ n))
 
 wipe-requires : tie.Need-wipe-requires
 wipe-requires c κs = search rules
@@ -47,8 +47,8 @@ returns : tie.Need-returns
 returns c =
     let k = c.before.before.before.before.before.before.before.before.before.before.before.before.before.before.before.before.before.before in
     let s = k.before.before.before.before.before.before.before.before.before.before.before.before.before.before.before.before.before.before.before.before in
-    let f = used-fits s.requires.1 k.before.before.before.before.before.before.before.before.used-words.ensures in
-    made-built s.requires.1 _ k.make-mesh.ensures k.make-mesh.new.1.1.1.1.1.1.1.1.1.1.1.1.1.1.1.1.0 _ (k.make-mesh.auto.1.1.1.1.1.1.1.1.1.1.1.1.1.1.1.1.0 ∙ length-take-le _ s.args.work.now f) f c.before.before.wipe.ensures
+    let f = used_fits s.requires.1 k.before.before.before.before.before.before.before.before.used-words.ensures in
+    made_built s.requires.1 _ k.make-mesh.ensures k.make-mesh.new.1.1.1.1.1.1.1.1.1.1.1.1.1.1.1.1.0 _ (k.make-mesh.auto.1.1.1.1.1.1.1.1.1.1.1.1.1.1.1.1.0 ∙ length-take-le _ s.args.work.now f) f c.before.before.wipe.ensures
 
 pub build-spec : {M : Type 1} → statement M
 build-spec =

@@ -1,6 +1,6 @@
 -- `polymesh::build::make_mesh` meets its contract: with a mesh it is linked and stored, without one nothing is. Assumes nothing.
-use Rattle.polymesh.proofs.Gathers.{admitted-sized}
-use Rattle.polymesh.proofs.Builds.{refused-exit, linkable, storable, built-exit}
+use Rattle.polymesh.proofs.Gathers.{admitted_sized}
+use Rattle.polymesh.proofs.Builds.{refused_exit, linkable, storable, built_exit}
 use borrow.Author.Rules.{rules}
 use Rattle.polymesh.proofs.build.make_mesh.Statement.{statement}
 use Rattle.polymesh.proofs.build.make_mesh.Tie as tie
@@ -15,13 +15,13 @@ same_length : tie.Need-same-length
 same_length c = search rules
 
 returns : tie.Need-returns
-returns c = refused-exit c.before.before.before.before.before.before.before.before.before.before.before.before.before.before.before.before.before.before.requires.1 (c.before.before.before.before.before.gather-mesh.ensures _ _ _) c.before.r.given.1
+returns c = refused_exit c.before.before.before.before.before.before.before.before.before.before.before.before.before.before.before.before.before.before.requires.1 (c.before.before.before.before.before.gather-mesh.ensures _ _ _) c.before.r.given.1
 
 enum-known-np : tie.Need-enum-known-np
 enum-known-np c = search rules
 
 places-requires : tie.Need-places-requires
-places-requires c κs = admitted-sized c.before.before.before.before.before.before.before.before.before.before.before.before.before.before.before.before.before.before.requires.1.job
+places-requires c κs = admitted_sized c.before.before.before.before.before.before.before.before.before.before.before.before.before.before.before.before.before.before.requires.1.job
 
 link-mesh-requires : tie.Need-link-mesh-requires
 link-mesh-requires c κs = linkable c.before.before.before.before.before.before.before.before.before.before.before.before.before.before.before.before.before.before.before.before.requires.1 (c.before.before.before.before.before.before.before.gather-mesh.ensures _ _ _) c.before.before.before.np.given.1
@@ -51,7 +51,7 @@ same-length-8 : tie.Need-same-length-8
 same-length-8 c = search rules
 
 returns-2 : tie.Need-returns-2
-returns-2 c = built-exit c.before.before.before.before.before.before.before.before.before.before.before.before.before.before.before.before.before.before.before.before.before.before.before.before.before.before.before.before.before.before.before.before.before.before.before.before.before.before.before.before.before.before.before.requires.1 (c.before.before.before.before.before.before.before.before.before.before.before.before.before.before.before.before.before.before.before.before.before.before.before.before.before.before.before.before.before.before.gather-mesh.ensures _ _ _) c.before.before.before.before.before.before.before.before.before.before.before.before.before.before.before.before.before.before.before.before.before.before.before.before.before.before.np.given.1 c.before.before.before.before.before.before.before.before.before.before.before.before.before.before.before.before.before.before.before.before.before.before.link-mesh.ensures c.before.before.before.before.before.before.before.before.before.before.before.before.before.before.before.before.before.before.before.before.before.before.before.before.places.ensures c.before.before.before.before.before.before.before.before.before.before.before.before.store-mesh.ensures
+returns-2 c = built_exit c.before.before.before.before.before.before.before.before.before.before.before.before.before.before.before.before.before.before.before.before.before.before.before.before.before.before.before.before.before.before.before.before.before.before.before.before.before.before.before.before.before.before.before.requires.1 (c.before.before.before.before.before.before.before.before.before.before.before.before.before.before.before.before.before.before.before.before.before.before.before.before.before.before.before.before.before.before.gather-mesh.ensures _ _ _) c.before.before.before.before.before.before.before.before.before.before.before.before.before.before.before.before.before.before.before.before.before.before.before.before.before.before.np.given.1 c.before.before.before.before.before.before.before.before.before.before.before.before.before.before.before.before.before.before.before.before.before.before.link-mesh.ensures c.before.before.before.before.before.before.before.before.before.before.before.before.before.before.before.before.before.before.before.before.before.before.before.before.places.ensures c.before.before.before.before.before.before.before.before.before.before.before.before.store-mesh.ensures
 
 pub make-mesh-spec : {M : Type 1} → statement M
 make-mesh-spec =

@@ -5,11 +5,11 @@ use lib.Seq.{length-take-le}
 use Rattle.rules.specs.Job.{Job}
 use Rattle.rules.specs.Checks.{Lent}
 use mathlib.Core.Path.{◌≡◌, sym, ◌∙◌}
-use Rattle.rules.specs.Checks.{lengthsOf, check, passed}
+use Rattle.rules.specs.Checks.{lengths_of, check, passed}
 use Rattle.checks.specs.Answers.{job_of, is-passed, is-refusal}
-use Rattle.checks.specs.Sums.{v-is, t-is}
+use Rattle.checks.specs.Sums.{v_is, t_is}
 use Rattle.outputs.specs.Ready.{buffers}
-use Rattle.polymesh.proofs.Meshes.{refused_all, few-contours, few-vertices, work-fits, admitted, build-ready, built-all}
+use Rattle.polymesh.proofs.Meshes.{refused_all, few_contours, few_vertices, work_fits, admitted, build_ready, built_all}
 use borrow.Author.Rules.{rules}
 use Rattle.polymesh.proofs.mesh.into_polygon_mesh.Statement.{statement}
 use Rattle.polymesh.proofs.mesh.into_polygon_mesh.Tie as tie
@@ -27,7 +27,7 @@ enum-known-r : tie.Need-enum-known-r
 enum-known-r c = search rules
 
 returns : tie.Need-returns
-unfolding lengthsOf
+unfolding lengths_of
 returns c =
     let s = c.before.before.before.before.before.before.before.before.before.before.before.before.before.before.before in
     refused_all s.args.header (job_of s.args.nvp s.args.w s.args.h s.args.border _ _ _ _) _
@@ -37,42 +37,42 @@ enum_told : tie.Need-enum-told
 enum_told c = search rules
 
 count-v-requires : tie.Need-count-v-requires
-count-v-requires c κs = few-contours (job_of c.before.before.before.before.before.before.before.before.before.before.before.before.before.before.args.nvp 0 0 0 _ _ _ _) _ (is-passed _ (sym (c.before.before.check.ensures 0 0 0) ∙ c.enum_told.given.1))
+count-v-requires c κs = few_contours (job_of c.before.before.before.before.before.before.before.before.before.before.before.before.before.before.args.nvp 0 0 0 _ _ _ _) _ (is-passed _ (sym (c.before.before.check.ensures 0 0 0) ∙ c.enum_told.given.1))
 
 count-t-requires : tie.Need-count-t-requires
-count-t-requires c κs = few-contours (job_of c.before.before.before.before.before.before.before.before.before.before.before.before.before.before.before.args.nvp 0 0 0 _ _ _ _) _ (is-passed _ (sym (c.before.before.before.check.ensures 0 0 0) ∙ c.before.enum_told.given.1))
+count-t-requires c κs = few_contours (job_of c.before.before.before.before.before.before.before.before.before.before.before.before.before.before.before.args.nvp 0 0 0 _ _ _ _) _ (is-passed _ (sym (c.before.before.before.check.ensures 0 0 0) ∙ c.before.enum_told.given.1))
 
 work-words-requires : tie.Need-work-words-requires
 work-words-requires c κs =
     let j = job_of c.before.before.before.before.before.before.before.before.before.before.before.before.before.before.before.before.args.nvp 0 0 0 _ _ _ _ in
-    few-vertices j _ (is-passed _ (sym (c.before.before.before.before.check.ensures 0 0 0) ∙ c.before.before.enum_told.given.1)) (c.before.count-v.ensures ∙ sym (v-is j))
+    few_vertices j _ (is-passed _ (sym (c.before.before.before.before.check.ensures 0 0 0) ∙ c.before.before.enum_told.given.1)) (c.before.count-v.ensures ∙ sym (v_is j))
 
 slice-relend-prefix-build : tie.Need-slice-relend-prefix-build
-unfolding lengthsOf
+unfolding lengths_of
 slice-relend-prefix-build c =
     let s = c.before.before.before.before.before.before.before.before.before.before.before.before.before.before.before.before.before.before.before.before.before.before.before in
     let p = is-passed _ (sym (c.before.before.before.before.before.before.before.before.before.before.before.check.ensures 0 0 0) ∙ c.before.before.before.before.before.before.before.before.before.enum_told.given.1) in
-    work-fits (job s 0 0 0) (lent s) p (c.before.before.before.before.before.before.before.before.count-v.ensures ∙ sym (v-is (job s 0 0 0))) c.before.before.before.before.before.before.work-words.ensures
+    work_fits (job s 0 0 0) (lent s) p (c.before.before.before.before.before.before.before.before.count-v.ensures ∙ sym (v_is (job s 0 0 0))) c.before.before.before.before.before.before.work-words.ensures
 
 slice-aggregate-build : tie.Need-slice-aggregate-build
-unfolding lengthsOf
+unfolding lengths_of
 slice-aggregate-build c =
     let s = c.before.before.before.before.before.before.before.before.before.before.before.before.before.before.before.before.before.before.before.before.before.before.before.before in
     let p = is-passed _ (sym (c.before.before.before.before.before.before.before.before.before.before.before.before.check.ensures 0 0 0) ∙ c.before.before.before.before.before.before.before.before.before.before.enum_told.given.1) in
-    sym (length-take-le _ s.args.work.now (work-fits (job s 0 0 0) (lent s) p (c.before.before.before.before.before.before.before.before.before.count-v.ensures ∙ sym (v-is (job s 0 0 0))) c.before.before.before.before.before.before.before.work-words.ensures))
+    sym (length-take-le _ s.args.work.now (work_fits (job s 0 0 0) (lent s) p (c.before.before.before.before.before.before.before.before.before.count-v.ensures ∙ sym (v_is (job s 0 0 0))) c.before.before.before.before.before.before.before.work-words.ensures))
 
 build-requires : tie.Need-build-requires
-unfolding lengthsOf
+unfolding lengths_of
 build-requires c κs =
     let s = c.before.before.before.before.before.before.before.before.before.before.before.before.before.before.before.before.before.before.before.before.before.before.before.before in
     let a = c.before.before.before.before.before.before.before.before.before.count-v.ensures in
     let t = c.before.before.before.before.before.before.before.before.count-t.ensures in
-    let p : (x y z : ℕ) → check (job s x y z) (lengthsOf (lent s)) ≡ passed = λ x y z. is-passed (check (job s x y z) (lengthsOf (lent s))) (sym (c.before.before.before.before.before.before.before.before.before.before.before.before.check.ensures x y z) ∙ c.before.before.before.before.before.before.before.before.before.before.enum_told.given.1) in
+    let p : (x y z : ℕ) → check (job s x y z) (lengths_of (lent s)) ≡ passed = λ x y z. is-passed (check (job s x y z) (lengths_of (lent s))) (sym (c.before.before.before.before.before.before.before.before.before.before.before.before.check.ensures x y z) ∙ c.before.before.before.before.before.before.before.before.before.before.enum_told.given.1) in
     let n = c.before.before.before.before.before.before.before.work-words.ensures in
-    let l = length-take-le _ s.args.work.now (work-fits (job s 0 0 0) (lent s) (p 0 0 0) (a ∙ sym (v-is (job s 0 0 0))) n) ∙ n in
+    let l = length-take-le _ s.args.work.now (work_fits (job s 0 0 0) (lent s) (p 0 0 0) (a ∙ sym (v_is (job s 0 0 0))) n) ∙ n in
     let j = job s s.args.w s.args.h s.args.border in (
-      λ x y z. admitted (job s x y z) (lengthsOf (lent s)) (p x y z) (a ∙ sym (v-is (job s x y z))) (t ∙ sym (t-is (job s x y z))),
-      build-ready j (lent s) (p s.args.w s.args.h s.args.border) (a ∙ sym (v-is j)) (t ∙ sym (t-is j)) _ l (record {
+      λ x y z. admitted (job s x y z) (lengths_of (lent s)) (p x y z) (a ∙ sym (v_is (job s x y z))) (t ∙ sym (t_is (job s x y z))),
+      build_ready j (lent s) (p s.args.w s.args.h s.args.border) (a ∙ sym (v_is j)) (t ∙ sym (t_is j)) _ l (record {
         nvp = s.ranges.nvp.fits;
         w = s.ranges.w.fits;
         h = s.ranges.h.fits;
@@ -106,17 +106,17 @@ same-length-7 : tie.Need-same-length-7
 same-length-7 c = search rules
 
 returns-2 : tie.Need-returns-2
-unfolding lengthsOf
+unfolding lengths_of
 returns-2 c =
     let s = c.before.before.before.before.before.before.before.before.before.before.before.before.before.before.before.before.before.before.before.before.before.before.before.before.before.before.before.before.before.before.before.before.before.before.before.before.before.before.before in
     let j = job s s.args.w s.args.h s.args.border in
-    let a = c.before.before.before.before.before.before.before.before.before.before.before.before.before.before.before.before.before.before.before.before.before.before.before.before.count-v.ensures ∙ sym (v-is j) in
-    let t = c.before.before.before.before.before.before.before.before.before.before.before.before.before.before.before.before.before.before.before.before.before.before.before.count-t.ensures ∙ sym (t-is j) in
-    let p = is-passed (check j (lengthsOf (lent s))) (sym (c.before.before.before.before.before.before.before.before.before.before.before.before.before.before.before.before.before.before.before.before.before.before.before.before.before.before.before.check.ensures s.args.w s.args.h s.args.border) ∙ c.before.before.before.before.before.before.before.before.before.before.before.before.before.before.before.before.before.before.before.before.before.before.before.before.before.enum_told.given.1) in
+    let a = c.before.before.before.before.before.before.before.before.before.before.before.before.before.before.before.before.before.before.before.before.before.before.before.before.count-v.ensures ∙ sym (v_is j) in
+    let t = c.before.before.before.before.before.before.before.before.before.before.before.before.before.before.before.before.before.before.before.before.before.before.before.count-t.ensures ∙ sym (t_is j) in
+    let p = is-passed (check j (lengths_of (lent s))) (sym (c.before.before.before.before.before.before.before.before.before.before.before.before.before.before.before.before.before.before.before.before.before.before.before.before.before.before.before.check.ensures s.args.w s.args.h s.args.border) ∙ c.before.before.before.before.before.before.before.before.before.before.before.before.before.before.before.before.before.before.before.before.before.before.before.before.before.enum_told.given.1) in
     let n = c.before.before.before.before.before.before.before.before.before.before.before.before.before.before.before.before.before.before.before.before.before.before.work-words.ensures in
-    let f = work-fits j (lent s) p a n in
+    let f = work_fits j (lent s) p a n in
     let m = length-take-le _ s.args.work.now f in
-    built-all j (lent s) p a t _ (m ∙ n) s.args.header c.before.before.before.before.before.before.before.before.before.before.before.before.before.before.build.ensures (prefix_back s.args.work.now _ _ (c.before.before.before.before.before.before.before.before.before.before.before.before.before.before.build.auto.1.1.1.1.1.1.1.1.1.1.1.1.1.1.1.1.0 ∙ m) f)
+    built_all j (lent s) p a t _ (m ∙ n) s.args.header c.before.before.before.before.before.before.before.before.before.before.before.before.before.before.build.ensures (prefix_back s.args.work.now _ _ (c.before.before.before.before.before.before.before.before.before.before.before.before.before.before.build.auto.1.1.1.1.1.1.1.1.1.1.1.1.1.1.1.1.0 ∙ m) f)
 
 pub into-polygon-mesh-spec : {M : Type 1} → statement M
 into-polygon-mesh-spec =

@@ -1,7 +1,7 @@
 -- `polymesh::replies::refusal_number` meets its contract: each arm is the table's number with its variant known. Assumes nothing.
 use mathlib.Core.Path.{refl}
 use borrow.Author.Rules.{rules}
-use Rattle.rules.specs.Replies.{refusalNumber}
+use Rattle.rules.specs.Replies.{refusal_number}
 use Rattle.polymesh.proofs.replies.refusal_number.Statement.{statement}
 use Rattle.polymesh.proofs.replies.refusal_number.Tie as tie
 
@@ -30,35 +30,35 @@ enum-told-8 : tie.Need-enum-told-8
 enum-told-8 c = search rules
 
 returns : tie.Need-returns
-unfolding refusalNumber
+unfolding refusal_number
 returns c = rw c.enum_told.given.1 refl
 
 returns-2 : tie.Need-returns-2
-unfolding refusalNumber
+unfolding refusal_number
 returns-2 c = rw c.enum-told2.given.1 refl
 
 returns-3 : tie.Need-returns-3
-unfolding refusalNumber
+unfolding refusal_number
 returns-3 c = rw c.enum-told3.given.1 refl
 
 returns-4 : tie.Need-returns-4
-unfolding refusalNumber
+unfolding refusal_number
 returns-4 c = rw c.enum-told4.given.1 refl
 
 returns-5 : tie.Need-returns-5
-unfolding refusalNumber
+unfolding refusal_number
 returns-5 c = rw c.enum-told5.given.1 refl
 
 returns-6 : tie.Need-returns-6
-unfolding refusalNumber
+unfolding refusal_number
 returns-6 c = rw c.enum-told6.given.1 refl
 
 returns-7 : tie.Need-returns-7
-unfolding refusalNumber
+unfolding refusal_number
 returns-7 c = rw c.enum-told7.given.1 refl
 
 returns-8 : tie.Need-returns-8
-unfolding refusalNumber
+unfolding refusal_number
 returns-8 c = rw c.enum-told8.given.1 refl
 
 pub refusal-number-spec : {M : Type 1} → statement M

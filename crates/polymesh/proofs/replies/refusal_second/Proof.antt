@@ -1,7 +1,7 @@
 -- `polymesh::replies::refusal_second` meets its contract: each arm is the table's second number with its variant known. Assumes nothing.
 use mathlib.Core.Path.{refl}
 use borrow.Author.Rules.{rules}
-use Rattle.rules.specs.Replies.{refusalSecond}
+use Rattle.rules.specs.Replies.{refusal_second}
 use Rattle.polymesh.proofs.replies.refusal_second.Statement.{statement}
 use Rattle.polymesh.proofs.replies.refusal_second.Tie as tie
 
@@ -30,35 +30,35 @@ enum-known-refusal-7 : tie.Need-enum-known-refusal-7
 enum-known-refusal-7 c = search rules
 
 returns : tie.Need-returns
-unfolding refusalSecond
+unfolding refusal_second
 returns c = rw c.before.refusal.given.1 refl
 
 returns-2 : tie.Need-returns-2
-unfolding refusalSecond
+unfolding refusal_second
 returns-2 c = rw c.enum_told.given.1 refl
 
 returns-3 : tie.Need-returns-3
-unfolding refusalSecond
+unfolding refusal_second
 returns-3 c = rw c.before.refusal2.given.1 refl
 
 returns-4 : tie.Need-returns-4
-unfolding refusalSecond
+unfolding refusal_second
 returns-4 c = rw c.before.refusal3.given.1 refl
 
 returns-5 : tie.Need-returns-5
-unfolding refusalSecond
+unfolding refusal_second
 returns-5 c = rw c.before.refusal4.given.1 refl
 
 returns-6 : tie.Need-returns-6
-unfolding refusalSecond
+unfolding refusal_second
 returns-6 c = rw c.before.refusal5.given.1 refl
 
 returns-7 : tie.Need-returns-7
-unfolding refusalSecond
+unfolding refusal_second
 returns-7 c = rw c.before.refusal6.given.1 refl
 
 returns-8 : tie.Need-returns-8
-unfolding refusalSecond
+unfolding refusal_second
 returns-8 c = rw c.before.refusal7.given.1 refl
 
 pub refusal-second-spec : {M : Type 1} → statement M

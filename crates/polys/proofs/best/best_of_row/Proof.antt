@@ -1,15 +1,15 @@
 -- `polys::best::best_of_row` meets its contract: the polygons that are left of the row, from the best so far, give the best of the row. Assumes nothing.
 use Prim.Native.Nat.{◌-◌}
 use borrow.Author.Rules.{rules}
-use Rattle.records.specs.Layout.{verticesAt, polygonsAt}
-use Rattle.records.specs.Polygons.{length-polygons}
-use Rattle.polys.proofs.Greatest.{Searching, row-begin, row_more, row-end}
+use Rattle.records.specs.Layout.{vertices_at, polygons_at}
+use Rattle.records.specs.Polygons.{length_polygons}
+use Rattle.polys.proofs.Greatest.{Searching, row_begin, row_more, row_end}
 use Rattle.polys.proofs.best.best_of_row.Statement.{statement}
 use Rattle.polys.proofs.best.best_of_row.Tie as tie
 
 abbrev invariant-loop : tie.invariant-loop
 invariant-loop work vo nv o np nvp a m₀ b₀ m b =
-    Searching (verticesAt work vo nv) nvp (polygonsAt work o np) a m₀ np m b
+    Searching (vertices_at work vo nv) nvp (polygons_at work o np) a m₀ np m b
 
 abbrev decreases-loop : tie.decreases-loop
 decreases-loop work vo nv o np nvp a m₀ b₀ m b = np - b
@@ -18,7 +18,7 @@ add-b : tie.Need-overflow-add-b invariant-loop decreases-loop
 add-b c = search rules
 
 loop-holds : tie.Need-loop-init invariant-loop decreases-loop
-loop-holds c = let s = c.before in row-begin _ s.args.nvp _ s.args.a _ _ (length-polygons _ _ _)
+loop-holds c = let s = c.before in row_begin _ s.args.nvp _ s.args.a _ _ (length_polygons _ _ _)
 
 get-poly-merge-value-requires : tie.Need-get-poly-merge-value-requires invariant-loop decreases-loop
 get-poly-merge-value-requires c κs = search rules
@@ -39,7 +39,7 @@ loop-again c =
     c.greater.ensures
 
 returns : tie.Need-returns invariant-loop decreases-loop
-returns c = let s = c.before.before.before in row-end _ s.args.nvp _ c.before.loop.invariant c.loop-test.false
+returns c = let s = c.before.before.before in row_end _ s.args.nvp _ c.before.loop.invariant c.loop-test.false
 
 pub best-of-row-spec : {M : Type 1} → statement M
 best-of-row-spec =

@@ -1,6 +1,6 @@
 -- `polys::merge::merge_pairs` meets its contract: R4 on the polygons that are left gives what R4 on all of them gives, with rows or without. Assumes nothing.
 use Prim.Native.Nat.{◌<◌}
-use Rattle.polys.proofs.Rounds.{Going, going-begin, going-some, going-join, going-renew, going_more, going_end}
+use Rattle.polys.proofs.Rounds.{Going, going_begin, going_some, going_join, going_renew, going_more, going_end}
 use borrow.Author.Rules.{rules}
 use Rattle.polys.proofs.merge.merge_pairs.Statement.{statement}
 use Rattle.polys.proofs.merge.merge_pairs.Tie as tie
@@ -20,10 +20,10 @@ left-some : (k : tie.Else1 invariant-loop decreases-loop) → 0 < k.before.befor
 left-some k =
     let e = k.before.before in
     let s = e.before.before.before.before in
-    going-some s.requires.0.rows s.requires.1 e.before.before.loop.invariant _ e.best-if.ensures (search rules)
+    going_some s.requires.0.rows s.requires.1 e.before.before.loop.invariant _ e.best-if.ensures (search rules)
 
 loop-holds : tie.Need-loop-init invariant-loop decreases-loop
-loop-holds c = let s = c.before in going-begin s.requires.0.rows s.requires.1 s.requires.0
+loop-holds c = let s = c.before in going_begin s.requires.0.rows s.requires.1 s.requires.0
 
 best-if-requires : tie.Need-best-if-requires invariant-loop decreases-loop
 best-if-requires c κs = c.before.loop.invariant.kept
@@ -41,7 +41,7 @@ join-pair-requires : tie.Need-join-pair-requires invariant-loop decreases-loop
 join-pair-requires c κs =
     let k = c.before.before.before in
     let s = k.before.before.before.before in
-    going-join s.requires.0.rows s.requires.1 k.before.before.loop.invariant _ k.best-if.ensures (search rules)
+    going_join s.requires.0.rows s.requires.1 k.before.before.loop.invariant _ k.best-if.ensures (search rules)
 
 sub-n : tie.Need-overflow-sub-n invariant-loop decreases-loop
 sub-n c = let h = left-some c.before.before.before.before in search rules
@@ -51,7 +51,7 @@ renew-if-requires c κs =
     let k = c.before.before.before.before.before.before.before in
     let s = k.before.before.before.before in
     let j = c.before.before.before.join-pair in
-    going-renew s.requires.0.rows s.requires.1 k.before.before.loop.invariant _ k.best-if.ensures
+    going_renew s.requires.0.rows s.requires.1 k.before.before.loop.invariant _ k.best-if.ensures
     (some-length c.before.before.before.before.before) j.auto.0 j.ensures
 
 loop-less : tie.Need-loop-smaller invariant-loop decreases-loop

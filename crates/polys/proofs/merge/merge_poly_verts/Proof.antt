@@ -1,6 +1,6 @@
 -- `polys::merge::merge_poly_verts` meets its contract: the corners past the side of each, one after the other. Assumes nothing.
 use borrow.Author.Rules.{rules}
-use Rattle.polys.proofs.Joins.{join-made}
+use Rattle.polys.proofs.Joins.{join_made}
 use Rattle.polys.proofs.merge.merge_poly_verts.Statement.{statement}
 use Rattle.polys.proofs.merge.merge_poly_verts.Tie as tie
 
@@ -25,7 +25,7 @@ joined-region-requires c κs = search rules
 returns : tie.Need-returns
 returns c =
     let s = c.before.before.before.before.before in
-    join-made s.args.p s.args.q s.args.ea s.args.eb (search rules) (search rules) s.requires.0 s.requires.1 s.requires.2
+    join_made s.args.p s.args.q s.args.ea s.args.eb (search rules) (search rules) s.requires.0 s.requires.1 s.requires.2
     c.before.before.put-past.ensures c.before.put-past2.ensures c.joined-region.ensures
 
 pub merge-poly-verts-spec : {M : Type 1} → statement M

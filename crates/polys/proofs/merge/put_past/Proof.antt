@@ -2,13 +2,13 @@
 use Prim.Native.Nat.{◌-◌}
 use borrow.Author.Rules.{rules}
 use Rattle.mem.specs.Tab.{Filled, filled_none, filled_more}
-use Rattle.records.specs.Values.{cornersOf}
-use Rattle.polys.proofs.Joins.{past, round-below, round-fits, past-at, past-put}
+use Rattle.records.specs.Values.{corners_of}
+use Rattle.polys.proofs.Joins.{past, round_below, round_fits, past_at, past_put}
 use Rattle.polys.proofs.merge.put_past.Statement.{statement}
 use Rattle.polys.proofs.merge.put_past.Tie as tie
 
 abbrev invariant-loop : tie.invariant-loop
-invariant-loop at e p d₀ i₀ d i = Filled d₀ at (past (cornersOf p) e) (p.n - 1) d i
+invariant-loop at e p d₀ i₀ d i = Filled d₀ at (past (corners_of p) e) (p.n - 1) d i
 
 abbrev decreases-loop : tie.decreases-loop
 decreases-loop at e p d₀ i₀ d i = p.n - 1 - i
@@ -29,10 +29,10 @@ rem-d : tie.Need-nonzero-rem-d invariant-loop decreases-loop
 rem-d c = search rules
 
 mul-d : tie.Need-overflow-mul-d invariant-loop decreases-loop
-mul-d c = search (rules, round-fits)
+mul-d c = search (rules, round_fits)
 
 element-copy-out-d : tie.Need-element-copy-out-d invariant-loop decreases-loop
-element-copy-out-d c = search (rules, round-below)
+element-copy-out-d c = search (rules, round_below)
 
 add-d-3 : tie.Need-overflow-add-d-3 invariant-loop decreases-loop
 add-d-3 c = search rules
@@ -53,12 +53,12 @@ loop-again : tie.Need-loop-preserved invariant-loop decreases-loop
 loop-again c =
     let g = c.before.before.before.args in
     filled_more c.before.before.loop.invariant _ _ (search rules)
-    (past-at g.t3 (search rules) g.e (search rules) c.before.before.loop.i) (search rules)
+    (past_at g.t3 (search rules) g.e (search rules) c.before.before.loop.i) (search rules)
 
 returns : tie.Need-returns invariant-loop decreases-loop
 returns c =
     let g = c.before.before.args in
-    past-put g.t3 (search rules) g.e (search rules) c.before.loop.invariant (search rules)
+    past_put g.t3 (search rules) g.e (search rules) c.before.loop.invariant (search rules)
 
 pub put-past-spec : {M : Type 1} → statement M
 put-past-spec =

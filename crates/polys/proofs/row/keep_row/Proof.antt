@@ -1,6 +1,6 @@
 -- `polys::row::keep_row` meets its contract: the stamp and the best pair of the polygon are its row. Assumes nothing.
-use Rattle.polys.proofs.Values.{stands-in}
-use Rattle.polys.proofs.Keeps.{stamped-of, row_fits, row_made}
+use Rattle.polys.proofs.Values.{stands_in}
+use Rattle.polys.proofs.Keeps.{stamped_of, row_fits, row_made}
 use borrow.Author.Rules.{rules}
 use Rattle.polys.proofs.row.keep_row.Statement.{statement}
 use Rattle.polys.proofs.row.keep_row.Tie as tie
@@ -12,10 +12,10 @@ add-stamp-from : tie.Need-overflow-add-stamp-from
 add-stamp-from c = search rules
 
 stamp-from-requires : tie.Need-stamp-from-requires
-stamp-from-requires c κs = let s = c.before.before in stands-in s.requires.0.rows.ready _ s.requires.1
+stamp-from-requires c κs = let s = c.before.before in stands_in s.requires.0.rows.ready _ s.requires.1
 
 stamped-row-requires : tie.Need-stamped-row-requires
-stamped-row-requires c κs = let s = c.before.before.before.before in stamped-of _ s.requires.0 s.requires.1 c.before.stamp-from.ensures
+stamped-row-requires c κs = let s = c.before.before.before.before in stamped_of _ s.requires.0 s.requires.1 c.before.stamp-from.ensures
 
 mul-store-row : tie.Need-overflow-mul-store-row
 mul-store-row c = search rules
@@ -27,7 +27,7 @@ store-row-requires : tie.Need-store-row-requires
 store-row-requires c κs =
     let k = c.before in
     let s = k.before.before.before.before.before in
-    row_fits (stamped-of _ s.requires.0 s.requires.1 k.before.before.stamp-from.ensures) k.stamped-row.ensures
+    row_fits (stamped_of _ s.requires.0 s.requires.1 k.before.before.stamp-from.ensures) k.stamped-row.ensures
 
 same_length : tie.Need-same-length
 same_length c = search rules
@@ -36,7 +36,7 @@ returns : tie.Need-returns
 returns c =
     let k = c.before.before.before.before in
     let s = k.before.before.before.before.before in
-    row_made (stamped-of _ s.requires.0 s.requires.1 k.before.before.stamp-from.ensures) k.stamped-row.ensures c.before.before.store-row.ensures
+    row_made (stamped_of _ s.requires.0 s.requires.1 k.before.before.stamp-from.ensures) k.stamped-row.ensures c.before.before.store-row.ensures
 
 pub keep-row-spec : {M : Type 1} → statement M
 keep-row-spec =

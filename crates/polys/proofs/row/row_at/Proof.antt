@@ -2,7 +2,7 @@
 use mathlib.Core.Path.{refl}
 use Prim.Native.Nat.{◌+◌, ◌*◌}
 use native.Mathlib.Omega.{arith}
-use Rattle.polys.specs.Rows.{rowSize, row_in}
+use Rattle.polys.specs.Rows.{row_size, row_in}
 use borrow.Author.Rules.{rules}
 use Rattle.polys.proofs.row.row_at.Statement.{statement}
 use Rattle.polys.proofs.row.row_at.Tie as tie
@@ -29,7 +29,7 @@ shared-slice-read-t11 : tie.Need-shared-slice-read-t11
 shared-slice-read-t11 c = search rules
 
 cast-t12 : tie.Need-overflow-cast-t12
-cast-t12 c = let a = c.before.before.args in omega (arith, c.shared-slice-known2.given (a.ro + a.r * rowSize + 1))
+cast-t12 c = let a = c.before.before.args in omega (arith, c.shared-slice-known2.given (a.ro + a.r * row_size + 1))
 
 add-t13 : tie.Need-overflow-add-t13
 add-t13 c = search rules
@@ -41,7 +41,7 @@ shared-slice-read-t16 : tie.Need-shared-slice-read-t16
 shared-slice-read-t16 c = search rules
 
 cast-t17 : tie.Need-overflow-cast-t17
-cast-t17 c = let a = c.before.before.before.args in omega (arith, c.shared-slice-known3.given (a.ro + a.r * rowSize + 2))
+cast-t17 c = let a = c.before.before.before.args in omega (arith, c.shared-slice-known3.given (a.ro + a.r * row_size + 2))
 
 add-t18 : tie.Need-overflow-add-t18
 add-t18 c = search rules
@@ -53,7 +53,7 @@ shared-slice-read-t21 : tie.Need-shared-slice-read-t21
 shared-slice-read-t21 c = search rules
 
 cast-t22 : tie.Need-overflow-cast-t22
-cast-t22 c = let a = c.before.before.before.before.args in omega (arith, c.shared-slice-known4.given (a.ro + a.r * rowSize + 3))
+cast-t22 c = let a = c.before.before.before.before.args in omega (arith, c.shared-slice-known4.given (a.ro + a.r * row_size + 3))
 
 returns : tie.Need-returns
 unfolding row_in

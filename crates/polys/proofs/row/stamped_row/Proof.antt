@@ -1,15 +1,15 @@
 -- `polys::row::stamped_row` meets its contract: the polygons that are left of the row, from the best so far, give the best of the row. Assumes nothing.
 use Prim.Native.Nat.{◌-◌}
-use Rattle.records.specs.Layout.{verticesAt, polygonsAt}
-use Rattle.records.specs.Polygons.{length-polygons}
-use Rattle.polys.proofs.Greatest.{Searching, row-begin, row_more, row-end-none}
+use Rattle.records.specs.Layout.{vertices_at, polygons_at}
+use Rattle.records.specs.Polygons.{length_polygons}
+use Rattle.polys.proofs.Greatest.{Searching, row_begin, row_more, row_end_none}
 use borrow.Author.Rules.{rules}
 use Rattle.polys.proofs.row.stamped_row.Statement.{statement}
 use Rattle.polys.proofs.row.stamped_row.Tie as tie
 
 abbrev invariant-loop : tie.invariant-loop
 invariant-loop work vo nv o np nvp ro a s m₀ b₀ m b =
-    Searching (verticesAt work vo nv) nvp (polygonsAt work o np) a m₀ np m b
+    Searching (vertices_at work vo nv) nvp (polygons_at work o np) a m₀ np m b
 
 abbrev decreases-loop : tie.decreases-loop
 decreases-loop work vo nv o np nvp ro a s m₀ b₀ m b = np - b
@@ -21,7 +21,7 @@ add-b : tie.Need-overflow-add-b invariant-loop decreases-loop
 add-b c = search rules
 
 loop-holds : tie.Need-loop-init invariant-loop decreases-loop
-loop-holds c = let s = c.before.before in row-begin _ s.args.nvp _ s.args.a _ _ (length-polygons _ _ _)
+loop-holds c = let s = c.before.before in row_begin _ s.args.nvp _ s.args.a _ _ (length_polygons _ _ _)
 
 stamped-value-requires : tie.Need-stamped-value-requires invariant-loop decreases-loop
 stamped-value-requires c κs = (c.before.before.before.before.requires, c.before.loop.invariant.past, c.loop-test.true)
@@ -44,7 +44,7 @@ loop-again c =
 returns : tie.Need-returns invariant-loop decreases-loop
 returns c =
     let s = c.before.before.before.before in
-    row-end-none _ s.args.nvp _ c.before.loop.invariant c.loop-test.false c.before.before.no-pair.ensures
+    row_end_none _ s.args.nvp _ c.before.loop.invariant c.loop-test.false c.before.before.no-pair.ensures
 
 pub stamped-row-spec : {M : Type 1} → statement M
 stamped-row-spec =

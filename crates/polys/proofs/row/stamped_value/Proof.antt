@@ -1,5 +1,5 @@
 -- `polys::row::stamped_value` meets its contract: where the stamps have no bit in common there is no pair. Assumes nothing.
-use Rattle.polys.proofs.Keeps.{stamped-apart}
+use Rattle.polys.proofs.Keeps.{stamped_apart}
 use borrow.Author.Rules.{rules}
 use Rattle.polys.proofs.row.stamped_value.Statement.{statement}
 use Rattle.polys.proofs.row.stamped_value.Tie as tie
@@ -16,7 +16,7 @@ no-pair-requires c κs = search rules
 returns : tie.Need-returns
 returns c =
     let s = c.before.before.before.before.before in
-    stamped-apart s.requires.0 s.args.b _ s.requires.1 s.requires.2 c.before.before.before.stamp-at.ensures
+    stamped_apart s.requires.0 s.args.b _ s.requires.1 s.requires.2 c.before.before.before.stamp-at.ensures
     c.before.before.are-apart.ensures c.before.if1.true c.no-pair.ensures
 
 get-poly-merge-value-requires : tie.Need-get-poly-merge-value-requires

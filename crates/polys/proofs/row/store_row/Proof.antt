@@ -1,7 +1,7 @@
 -- `polys::row::store_row` meets its contract: five words, one after the other. Assumes nothing.
 use native.Mathlib.Omega.{arith}
 use lib.ListN.{set, length-set}
-use Rattle.polys.proofs.Keeps.{row-stored}
+use Rattle.polys.proofs.Keeps.{row_stored}
 use borrow.Author.Rules.{rules}
 use Rattle.polys.proofs.row.store_row.Statement.{statement}
 use Rattle.polys.proofs.row.store_row.Tie as tie
@@ -61,7 +61,7 @@ same_length : tie.Need-same-length
 same_length c = search rules
 
 returns : tie.Need-returns
-returns c = let a = c.before.before.before.args in row-stored _ a.at a.m a.s
+returns c = let a = c.before.before.before.args in row_stored _ a.at a.m a.s
 
 pub store-row-spec : {M : Type 1} → statement M
 store-row-spec =

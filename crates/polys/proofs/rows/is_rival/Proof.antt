@@ -1,11 +1,11 @@
 -- `polys::rows::is_rival` meets its contract: it is the two tests of the definition. Assumes nothing.
 use mathlib.Core.Path.{refl}
-use Rattle.laws.specs.Rows.{isRival}
+use Rattle.laws.specs.Rows.{is_rival}
 use Rattle.polys.proofs.rows.is_rival.Statement.{statement}
 use Rattle.polys.proofs.rows.is_rival.Tie as tie
 
 returns : tie.Need-returns
-unfolding isRival
+unfolding is_rival
 returns c = refl
 
 pub is-rival-spec : {M : Type 1} → statement M

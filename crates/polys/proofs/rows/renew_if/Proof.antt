@@ -1,5 +1,5 @@
 -- `polys::rows::renew_if` meets its contract: the rows are renewed, or nothing is said of them. Assumes nothing.
-use Rattle.polys.proofs.Rounds.{kept-not, kept-all}
+use Rattle.polys.proofs.Rounds.{kept_not, kept_all}
 use borrow.Author.Rules.{rules}
 use Rattle.polys.proofs.rows.renew_if.Statement.{statement}
 use Rattle.polys.proofs.rows.renew_if.Tie as tie
@@ -11,10 +11,10 @@ same_length : tie.Need-same-length
 same_length c = search rules
 
 returns : tie.Need-returns
-returns c = kept-all c.before.before.renew-rows.ensures c.before.before.before.before.if1.true
+returns c = kept_all c.before.before.renew-rows.ensures c.before.before.before.before.if1.true
 
 returns-2 : tie.Need-returns-2
-returns-2 c = kept-not c.before.before.requires.rows c.if1.false
+returns-2 c = kept_not c.before.before.requires.rows c.if1.false
 
 pub renew-if-spec : {M : Type 1} → statement M
 renew-if-spec = tie.close (tie.spec renew-rows-requires same_length returns returns-2)

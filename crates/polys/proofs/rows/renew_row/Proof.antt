@@ -1,5 +1,5 @@
 -- `polys::rows::renew_row` meets its contract: a row that is not stale is the row of the polygons that are there now. Assumes nothing.
-use Rattle.polys.proofs.Renews.{renew-not}
+use Rattle.polys.proofs.Renews.{renew_not}
 use borrow.Author.Rules.{rules}
 use Rattle.polys.proofs.rows.renew_row.Statement.{statement}
 use Rattle.polys.proofs.rows.renew_row.Tie as tie
@@ -25,7 +25,7 @@ same-length-2 c = search rules
 returns-2 : tie.Need-returns-2
 returns-2 c =
     let k = c.before.before.before in
-    renew-not k.before.before.before.requires k.row_at.ensures c.before.is-stale.ensures c.if1.false
+    renew_not k.before.before.before.requires k.row_at.ensures c.before.is-stale.ensures c.if1.false
 
 pub renew-row-spec : {M : Type 1} → statement M
 renew-row-spec =

@@ -4,15 +4,15 @@ use mathlib.Core.Path.{◌≡◌, refl, sym, ◌∙◌}
 use mathlib.Core.List.{List}
 use native.Mathlib.Omega.{arith}
 use lib.ListN.{length}
-use Rattle.rules.specs.Merge.{isEqual}
-use Rattle.records.specs.Values.{cornersFrom}
-use Rattle.polys.proofs.Sides.{RowFrom, from_start, from_more, row-none, row-hit, row-end, equal-made}
+use Rattle.rules.specs.Merge.{is_equal}
+use Rattle.records.specs.Values.{corners_from}
+use Rattle.polys.proofs.Sides.{RowFrom, from_start, from_more, row_none, row_hit, row_end, equal_made}
 use borrow.Author.Rules.{rules}
 use Rattle.polys.proofs.side.shared_by.Statement.{statement}
 use Rattle.polys.proofs.side.shared_by.Tie as tie
 
 abbrev invariant-loop : tie.invariant-loop
-invariant-loop work at bt i a b n c₀ j₀ c j = RowFrom (cornersFrom work at) (cornersFrom work bt) i j c
+invariant-loop work at bt i a b n c₀ j₀ c j = RowFrom (corners_from work at) (corners_from work bt) i j c
 
 abbrev decreases-loop : tie.decreases-loop
 decreases-loop work at bt i a b n c₀ j₀ c j = n - j
@@ -22,10 +22,10 @@ abbrev start : tie.In-loop invariant-loop decreases-loop → tie.Start invariant
 start k = k.before.before.before.before.before.before.before.before
 
 abbrev first : tie.In-loop invariant-loop decreases-loop → List ℕ
-first k = let s = start k in cornersFrom s.args.work.now s.args.at
+first k = let s = start k in corners_from s.args.work.now s.args.at
 
 abbrev second : tie.In-loop invariant-loop decreases-loop → List ℕ
-second k = let s = start k in cornersFrom s.args.work.now s.args.bt
+second k = let s = start k in corners_from s.args.work.now s.args.bt
 
 -- side j is one of the second's
 within : (k : tie.In-loop invariant-loop decreases-loop) → k.before.loop.j < length (second k)
@@ -33,11 +33,11 @@ within k = omega (arith, k.loop-test.true, k.before.before.before.before.count-f
 
 -- the test, of the corners that were read
 told : (k : tie.After-is-equal invariant-loop decreases-loop)
-    → k.is-equal.result ≡ isEqual (first k.before.before) (second k.before.before) (start k.before.before).args.i k.before.before.before.loop.j
+    → k.is-equal.result ≡ is_equal (first k.before.before) (second k.before.before) (start k.before.before).args.i k.before.before.before.loop.j
 told k =
     let t = k.before.before in
     let e = t.before.before.before.before.before in
-    equal-made _ _ _ _ e.before.corner-from.ensures e.end-from.ensures (t.before.loop.invariant.start (within t))
+    equal_made _ _ _ _ e.before.corner-from.ensures e.end-from.ensures (t.before.loop.invariant.start (within t))
     k.before.end-from2.ensures k.is-equal.ensures
 
 corner-from-requires : tie.Need-corner-from-requires invariant-loop decreases-loop
@@ -50,7 +50,7 @@ count-from-requires : tie.Need-count-from-requires invariant-loop decreases-loop
 count-from-requires c κs = search rules
 
 returns : tie.Need-returns invariant-loop decreases-loop
-returns c = row-none _ _ _ (sym c.before.count-from.ensures ∙ c.if1.true)
+returns c = row_none _ _ _ (sym c.before.count-from.ensures ∙ c.if1.true)
 
 corner-from-requires-2 : tie.Need-corner-from-requires-2 invariant-loop decreases-loop
 corner-from-requires-2 c κs = search rules
@@ -67,7 +67,7 @@ is-equal-requires c κs = search rules
 returns-2 : tie.Need-returns-2 invariant-loop decreases-loop
 returns-2 c =
     let k = c.before in
-    row-hit _ _ k.before.before.before.loop.invariant.row (within k.before.before) (sym (told k) ∙ c.if2.true)
+    row_hit _ _ k.before.before.before.loop.invariant.row (within k.before.before) (sym (told k) ∙ c.if2.true)
 
 add-j : tie.Need-overflow-add-j invariant-loop decreases-loop
 add-j c = search rules
@@ -81,7 +81,7 @@ loop-again c =
     from_more _ _ k.before.before.before.loop.invariant (within k.before.before) (sym (told k) ∙ c.if2.false) k.before.end-from2.ensures
 
 returns-3 : tie.Need-returns-3 invariant-loop decreases-loop
-returns-3 c = row-end _ _ c.before.loop.invariant.row (omega (arith, c.loop-test.false, c.before.before.before.before.count-from.ensures))
+returns-3 c = row_end _ _ c.before.loop.invariant.row (omega (arith, c.loop-test.false, c.before.before.before.before.count-from.ensures))
 
 pub shared-by-spec : {M : Type 1} → statement M
 shared-by-spec =

@@ -1,12 +1,12 @@
 -- `polys::side::shared_side` meets its contract: as long as nothing is found, the answer is that of the rows that are left. Assumes nothing.
-use Rattle.records.specs.Values.{cornersFrom}
-use Rattle.polys.proofs.Sides.{Rows, rows_all, rows_none, rows_next, rows-hit}
+use Rattle.records.specs.Values.{corners_from}
+use Rattle.polys.proofs.Sides.{Rows, rows_all, rows_none, rows_next, rows_hit}
 use borrow.Author.Rules.{rules}
 use Rattle.polys.proofs.side.shared_side.Statement.{statement}
 use Rattle.polys.proofs.side.shared_side.Tie as tie
 
 abbrev invariant-loop : tie.invariant-loop
-invariant-loop work at bt i₀ i = Rows (cornersFrom work at) (cornersFrom work bt) i
+invariant-loop work at bt i₀ i = Rows (corners_from work at) (corners_from work bt) i
 
 abbrev decreases-loop : tie.decreases-loop
 decreases-loop work at bt i₀ i = i
@@ -27,7 +27,7 @@ enum-known-k : tie.Need-enum-known-k invariant-loop decreases-loop
 enum-known-k c = search rules
 
 returns : tie.Need-returns invariant-loop decreases-loop
-returns c = rows-hit _ _ c.before.before.before.before.before.loop.invariant _ _ (search rules) c.before.before.before.shared-by.ensures c.before.k.given.1
+returns c = rows_hit _ _ c.before.before.before.before.before.loop.invariant _ _ (search rules) c.before.before.before.shared-by.ensures c.before.k.given.1
 
 enum_told : tie.Need-enum-told invariant-loop decreases-loop
 enum_told c = search rules

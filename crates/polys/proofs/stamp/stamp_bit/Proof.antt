@@ -4,7 +4,7 @@ use Prim.Native.Nat.{◌%◌}
 use native.Mathlib.Nat.{one-mul}
 use native.Mathlib.Omega.{arith}
 use lib.Pow.{shl_exact}
-use Rattle.laws.specs.Stamps.{stampBit}
+use Rattle.laws.specs.Stamps.{stamp_bit}
 use borrow.Author.Rules.{rules}
 use Rattle.polys.proofs.stamp.stamp_bit.Statement.{statement}
 use Rattle.polys.proofs.stamp.stamp_bit.Tie as tie
@@ -13,7 +13,7 @@ shl-result : tie.Need-overflow-shl-result
 shl-result c = search rules
 
 returns : tie.Need-returns
-unfolding stampBit
+unfolding stamp_bit
 returns c = shl_exact {a = 1} 1 (c.args.c % 32) 32 (omega arith) (omega arith) ∙ one-mul _
 
 pub stamp-bit-spec : {M : Type 1} → statement M

@@ -2,15 +2,15 @@
 use mathlib.Core.Path.{refl, ap, ◌∙◌}
 use Prim.Native.Nat.{◌-◌}
 use lib.Bits.{bit_or}
-use Rattle.mem.specs.Loops.{Doing, doing-more, doing_end}
-use Rattle.records.specs.Values.{cornersFrom}
-use Rattle.laws.specs.Stamps.{stampBit, stampWith, stampOf}
+use Rattle.mem.specs.Loops.{Doing, doing_more, doing_end}
+use Rattle.records.specs.Values.{corners_from}
+use Rattle.laws.specs.Stamps.{stamp_bit, stamp_with, stamp_of}
 use borrow.Author.Rules.{rules}
 use Rattle.polys.proofs.stamp.stamp_from.Statement.{statement}
 use Rattle.polys.proofs.stamp.stamp_from.Tie as tie
 
 abbrev invariant-loop : tie.invariant-loop
-invariant-loop work at n s₀ i₀ s i = Doing (stampWith (cornersFrom work at)) (stampOf (cornersFrom work at)) n s i
+invariant-loop work at n s₀ i₀ s i = Doing (stamp_with (corners_from work at)) (stamp_of (corners_from work at)) n s i
 
 abbrev decreases-loop : tie.decreases-loop
 decreases-loop work at n s₀ i₀ s i = n - i
@@ -19,7 +19,7 @@ count-from-requires : tie.Need-count-from-requires invariant-loop decreases-loop
 count-from-requires c κs = search rules
 
 loop-holds : tie.Need-loop-init invariant-loop decreases-loop
-unfolding stampOf
+unfolding stamp_of
 loop-holds c = record { same = rw c.count-from.ensures refl }
 
 corner-from-requires : tie.Need-corner-from-requires invariant-loop decreases-loop
@@ -35,10 +35,10 @@ loop-less : tie.Need-loop-smaller invariant-loop decreases-loop
 loop-less c = search rules
 
 loop-again : tie.Need-loop-preserved invariant-loop decreases-loop
-unfolding stampWith
+unfolding stamp_with
 loop-again c =
-    doing-more c.before.before.before.loop.invariant c.before.before.loop-test.true
-    (ap (bit_or c.before.before.before.loop.s) (c.stamp-bit.ensures ∙ ap stampBit c.before.corner-from.ensures))
+    doing_more c.before.before.before.loop.invariant c.before.before.loop-test.true
+    (ap (bit_or c.before.before.before.loop.s) (c.stamp-bit.ensures ∙ ap stamp_bit c.before.corner-from.ensures))
 
 returns : tie.Need-returns invariant-loop decreases-loop
 returns c = doing_end c.before.loop.invariant c.loop-test.false

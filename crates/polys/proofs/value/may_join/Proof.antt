@@ -1,6 +1,6 @@
 -- `polys::value::may_join` meets its contract: it is the definition. Assumes nothing.
-use Rattle.polys.proofs.Sides.{opposite-made}
-use Rattle.polys.proofs.Values.{may-made}
+use Rattle.polys.proofs.Sides.{opposite_made}
+use Rattle.polys.proofs.Values.{may_made}
 use borrow.Author.Rules.{rules}
 use Rattle.polys.proofs.value.may_join.Statement.{statement}
 use Rattle.polys.proofs.value.may_join.Tie as tie
@@ -29,8 +29,8 @@ turns-left-requires-2 c κs = search rules
 returns : tie.Need-returns
 returns c =
     let k = c.before.before in
-    may-made _ _ _ _ _
-    (opposite-made _ _ _ _ k.before.before.before.before.corner-from.ensures k.before.before.before.end-from.ensures k.before.before.corner-from2.ensures
+    may_made _ _ _ _ _
+    (opposite_made _ _ _ _ k.before.before.before.before.corner-from.ensures k.before.before.before.end-from.ensures k.before.before.corner-from2.ensures
     k.before.end-from2.ensures k.is-opposite.ensures)
     c.before.turns-left.ensures c.turns-left2.ensures
 

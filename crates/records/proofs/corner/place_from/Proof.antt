@@ -1,7 +1,7 @@
 -- `records::corner::place_from` meets its contract: a corner is one of the vertices. Assumes nothing.
 use mathlib.Core.Path.{ap, ◌∙◌}
 use Rattle.rules.specs.Mesh.{place_of}
-use Rattle.records.specs.Corners.{from-below}
+use Rattle.records.specs.Corners.{from_below}
 use borrow.Author.Rules.{rules}
 use Rattle.records.proofs.corner.place_from.Statement.{statement}
 use Rattle.records.proofs.corner.place_from.Tie as tie
@@ -13,7 +13,7 @@ cast-place-at : tie.Need-overflow-cast-place-at
 cast-place-at c = search rules
 
 place-at-requires : tie.Need-place-at-requires
-place-at-requires c κs = let s = c.before.before in (s.requires.0, from-below s.requires.2 s.requires.1 c.corner-from.ensures)
+place-at-requires c κs = let s = c.before.before in (s.requires.0, from_below s.requires.2 s.requires.1 c.corner-from.ensures)
 
 returns : tie.Need-returns
 returns c = (c.place_at.ensures.0 ∙ ap (place_of _) c.before.corner-from.ensures, c.place_at.ensures.1)

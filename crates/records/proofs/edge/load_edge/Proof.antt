@@ -1,6 +1,6 @@
 use Rattle.mem.specs.Tab.{tab}
-use Rattle.records.specs.Layout.{edgeIn}
-use Rattle.records.specs.Fixed.{edge-fixed, word_at, fixed-loaded}
+use Rattle.records.specs.Layout.{edge_in}
+use Rattle.records.specs.Fixed.{edge_fixed, word_at, fixed_loaded}
 use borrow.Author.Rules.{rules}
 use Rattle.records.proofs.edge.load_edge.Statement.{statement}
 use Rattle.records.proofs.edge.load_edge.Tie as tie
@@ -85,8 +85,8 @@ shared-slice-read-t28 c = search rules
 
 -- src/edge.rt:13:1
 returns : tie.Need-returns
-unfolding tab word_at edgeIn
-returns c = fixed-loaded edge-fixed _ _ _ _ (search rules) (search rules)
+unfolding tab word_at edge_in
+returns c = fixed_loaded edge_fixed _ _ _ _ (search rules) (search rules)
 
 pub load-edge-spec : {M : Type 1} → statement M
 load-edge-spec =

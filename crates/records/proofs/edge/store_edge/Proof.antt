@@ -1,8 +1,8 @@
 use lib.ListN.{length-set}
 use mathlib.Core.List.{[], ◌∷◌}
 use native.Mathlib.Omega.{arith}
-use Rattle.records.specs.Layout.{edgeWords}
-use Rattle.mem.specs.Slice.{setEach, stored-each}
+use Rattle.records.specs.Layout.{edge_words}
+use Rattle.mem.specs.Slice.{set_each, stored_each}
 use borrow.Author.Rules.{rules}
 use Rattle.records.proofs.edge.store_edge.Statement.{statement}
 use Rattle.records.proofs.edge.store_edge.Tie as tie
@@ -83,8 +83,8 @@ same_length c = search rules
 
 -- src/edge.rt:29:1
 returns : tie.Need-returns
-unfolding setEach edgeWords
-returns c = stored-each _ _ _ (_ ∷ _ ∷ _ ∷ _ ∷ _ ∷ [])
+unfolding set_each edge_words
+returns c = stored_each _ _ _ (_ ∷ _ ∷ _ ∷ _ ∷ _ ∷ [])
 
 pub store-edge-spec : {M : Type 1} → statement M
 store-edge-spec =

@@ -1,6 +1,6 @@
 use Rattle.mem.specs.Tab.{tab}
-use Rattle.records.specs.Layout.{pointIn}
-use Rattle.records.specs.Fixed.{point-fixed, word_at, fixed-loaded}
+use Rattle.records.specs.Layout.{point_in}
+use Rattle.records.specs.Fixed.{point_fixed, word_at, fixed_loaded}
 use borrow.Author.Rules.{rules}
 use Rattle.records.proofs.point.load_point.Statement.{statement}
 use Rattle.records.proofs.point.load_point.Tie as tie
@@ -49,8 +49,8 @@ shared-slice-read-t16 c = search rules
 
 -- src/point.rt:13:1
 returns : tie.Need-returns
-unfolding tab word_at pointIn
-returns c = fixed-loaded point-fixed _ _ _ _ (search rules) (search rules)
+unfolding tab word_at point_in
+returns c = fixed_loaded point_fixed _ _ _ _ (search rules) (search rules)
 
 pub load-point-spec : {M : Type 1} → statement M
 load-point-spec =

@@ -1,8 +1,8 @@
 use lib.ListN.{length-set}
 use mathlib.Core.List.{[], ◌∷◌}
 use native.Mathlib.Omega.{arith}
-use Rattle.records.specs.Layout.{pointWords}
-use Rattle.mem.specs.Slice.{setEach, stored-each}
+use Rattle.records.specs.Layout.{point_words}
+use Rattle.mem.specs.Slice.{set_each, stored_each}
 use borrow.Author.Rules.{rules}
 use Rattle.records.proofs.point.store_point.Statement.{statement}
 use Rattle.records.proofs.point.store_point.Tie as tie
@@ -47,8 +47,8 @@ same_length c = search rules
 
 -- src/point.rt:26:1
 returns : tie.Need-returns
-unfolding setEach pointWords
-returns c = stored-each _ _ _ (_ ∷ _ ∷ [])
+unfolding set_each point_words
+returns c = stored_each _ _ _ (_ ∷ _ ∷ [])
 
 pub store-point-spec : {M : Type 1} → statement M
 store-point-spec =

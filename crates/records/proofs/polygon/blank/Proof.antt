@@ -1,6 +1,6 @@
 use mathlib.Core.Path.{refl}
 use Rattle.rules.specs.Exits.{padded}
-use Rattle.records.specs.Values.{toPoly}
+use Rattle.records.specs.Values.{to_poly}
 use borrow.Author.Rules.{rules}
 use Rattle.records.proofs.polygon.blank.Statement.{statement}
 use Rattle.records.proofs.polygon.blank.Tie as tie
@@ -9,7 +9,7 @@ use Rattle.records.proofs.polygon.blank.Lts as lts
 
 -- src/polygon.rt:106:1
 returns : tie.Need-returns
-unfolding toPoly padded
+unfolding to_poly padded
 returns c = (refl, search rules)
 
 pub blank-spec : {M : Type 1} → statement M

@@ -1,4 +1,4 @@
-use Rattle.records.specs.Polygons.{corner-is}
+use Rattle.records.specs.Polygons.{corner_is}
 use borrow.Author.Rules.{rules}
 use Rattle.records.proofs.polygon.corner.Statement.{statement}
 use Rattle.records.proofs.polygon.corner.Tie as tie
@@ -15,7 +15,7 @@ element-copy-out-result c = search rules
 
 -- src/polygon.rt:90:1
 returns : tie.Need-returns
-returns c = corner-is _ (search rules) _ (search rules)
+returns c = corner_is _ (search rules) _ (search rules)
 
 pub corner-spec : {M : Type 1} → statement M
 corner-spec = tie.close (tie.spec mul-result element-copy-out-result returns)

@@ -1,4 +1,4 @@
-use Rattle.records.specs.Polygons.{polygon-at}
+use Rattle.records.specs.Polygons.{polygon_at_lem}
 use Rattle.records.specs.Corners.{stands_at}
 use borrow.Author.Rules.{rules}
 use Rattle.records.proofs.polygon.load_at.Statement.{statement}
@@ -16,7 +16,7 @@ load-poly-requires c κs = stands_at _ _ _ _ c.before.requires.0 c.before.requir
 returns : tie.Need-returns
 returns c =
     let g = c.before.before.args in
-    rw (polygon-at g.work.now g.o g.np g.i (search rules)) c.load-poly.ensures
+    rw (polygon_at_lem g.work.now g.o g.np g.i (search rules)) c.load-poly.ensures
 
 pub load-at-spec : {M : Type 1} → statement M
 load-at-spec = tie.close (tie.spec mul-load-poly add-load-poly load-poly-requires returns)

@@ -3,8 +3,8 @@ use Prim.Native.Nat.{◌-◌, ◌+◌}
 use mathlib.Core.Path.{refl}
 use Rattle.mem.specs.Tab.{Filled, filled_none, filled_more}
 use Rattle.rules.specs.Links.{none}
-use Rattle.records.specs.Layout.{mostCorners}
-use Rattle.records.specs.Polygons.{loaded-made}
+use Rattle.records.specs.Layout.{most_corners}
+use Rattle.records.specs.Polygons.{loaded_made}
 use borrow.Author.Rules.{rules}
 use Rattle.records.proofs.polygon.load_poly.Statement.{statement}
 use Rattle.records.proofs.polygon.load_poly.Tie as tie
@@ -12,7 +12,7 @@ use Rattle.records.proofs.polygon.load_poly.Reads as reads
 use Rattle.records.proofs.polygon.load_poly.Lts as lts
 
 abbrev invariant-loop : tie.invariant-loop
-invariant-loop work at n c₀ i₀ c i = Filled (replicate mostCorners none) 0 (λ k. get_or work (at + 3 + k) 0) n c i
+invariant-loop work at n c₀ i₀ c i = Filled (replicate most_corners none) 0 (λ k. get_or work (at + 3 + k) 0) n c i
 
 abbrev decreases-loop : tie.decreases-loop
 decreases-loop work at n c₀ i₀ c i = n - i
@@ -97,7 +97,7 @@ shared-slice-read-t24 c = search rules
 returns : tie.Need-returns invariant-loop decreases-loop
 returns c =
     let g = c.before.before.before.before.before.args in
-    loaded-made g.work.now g.at (search rules) refl (search rules) c.before.before.before.loop.invariant (search rules)
+    loaded_made g.work.now g.at (search rules) refl (search rules) c.before.before.before.loop.invariant (search rules)
 
 pub load-poly-spec : {M : Type 1} → statement M
 load-poly-spec =

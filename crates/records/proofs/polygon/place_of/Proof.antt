@@ -2,7 +2,7 @@
 use mathlib.Core.Path.{ap, ◌∙◌}
 use borrow.Author.Rules.{rules}
 use Rattle.rules.specs.Mesh.{place_of}
-use Rattle.records.specs.Layout.{verticesAt}
+use Rattle.records.specs.Layout.{vertices_at}
 use Rattle.records.specs.Polygons.{below_at}
 use Rattle.records.proofs.polygon.place_of.Statement.{statement}
 use Rattle.records.proofs.polygon.place_of.Tie as tie
@@ -21,7 +21,7 @@ place-at-requires c κs =
 returns : tie.Need-returns
 returns c =
     let s = c.before.before.before in
-    (c.place_at.ensures.0 ∙ ap (place_of (verticesAt s.args.work.now s.args.vo s.args.nv)) c.before.corner.ensures, c.place_at.ensures.1)
+    (c.place_at.ensures.0 ∙ ap (place_of (vertices_at s.args.work.now s.args.vo s.args.nv)) c.before.corner.ensures, c.place_at.ensures.1)
 
 pub place-of-spec : {M : Type 1} → statement M
 place-of-spec = tie.close (tie.spec corner-requires cast-place-at place-at-requires returns)

@@ -1,5 +1,5 @@
 use mathlib.Core.Path.{◌∙◌}
-use Rattle.records.specs.Polygons.{end_is, on-next}
+use Rattle.records.specs.Polygons.{end_is, on_next}
 use borrow.Author.Rules.{rules}
 use Rattle.records.proofs.polygon.side_end.Statement.{statement}
 use Rattle.records.proofs.polygon.side_end.Tie as tie
@@ -14,7 +14,7 @@ next-requires c κs = search rules
 
 -- src/polygon.rt:102:5
 corner-requires : tie.Need-corner-requires
-corner-requires c κs = on-next c.before.args.p (search rules) c.before.args.i (search rules) _ c.next.ensures
+corner-requires c κs = on_next c.before.args.p (search rules) c.before.args.i (search rules) _ c.next.ensures
 
 -- src/polygon.rt:98:1
 returns : tie.Need-returns

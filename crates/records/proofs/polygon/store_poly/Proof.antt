@@ -3,8 +3,8 @@ use Prim.Native.Nat.{◌-◌, ◌+◌}
 use mathlib.Core.Path.{refl}
 use native.Mathlib.Omega.{arith}
 use Rattle.mem.specs.Tab.{Filled, filled_none, filled_more}
-use Rattle.records.specs.Layout.{mostCorners}
-use Rattle.records.specs.Polygons.{stored-all}
+use Rattle.records.specs.Layout.{most_corners}
+use Rattle.records.specs.Polygons.{stored_all}
 use borrow.Author.Rules.{rules}
 use Rattle.records.proofs.polygon.store_poly.Statement.{statement}
 use Rattle.records.proofs.polygon.store_poly.Tie as tie
@@ -12,10 +12,10 @@ use Rattle.records.proofs.polygon.store_poly.Reads as reads
 use Rattle.records.proofs.polygon.store_poly.Lts as lts
 
 abbrev invariant-loop : tie.invariant-loop
-invariant-loop work₀ at p i₀ work i = Filled work₀ (at + 3) (λ k. get_or p.corners k 0) mostCorners work i
+invariant-loop work₀ at p i₀ work i = Filled work₀ (at + 3) (λ k. get_or p.corners k 0) most_corners work i
 
 abbrev decreases-loop : tie.decreases-loop
-decreases-loop work₀ at p i₀ work i = mostCorners - i
+decreases-loop work₀ at p i₀ work i = most_corners - i
 
 -- src/polygon.rt:60:16
 cast-work : tie.Need-overflow-cast-work invariant-loop decreases-loop
@@ -143,7 +143,7 @@ same_length c = simp length-set (simp length-set at c.before.loop.invariant.long
 
 -- src/polygon.rt:56:1
 returns : tie.Need-returns invariant-loop decreases-loop
-returns c = stored-all _ _ _ (search rules) c.before.loop.invariant (search rules)
+returns c = stored_all _ _ _ (search rules) c.before.loop.invariant (search rules)
 
 pub store-poly-spec : {M : Type 1} → statement M
 store-poly-spec =

@@ -1,8 +1,8 @@
 use Prim.Native.Nat.{◌-◌}
-use Rattle.mem.specs.Packed.{every-at}
-use Rattle.rules.specs.Mesh.{noPolygon}
+use Rattle.mem.specs.Packed.{every_at}
+use Rattle.rules.specs.Mesh.{no_polygon}
 use Rattle.records.specs.Layout.{Small}
-use Rattle.records.specs.Polygons.{swap-steps}
+use Rattle.records.specs.Polygons.{swap_steps}
 use borrow.Author.Rules.{rules}
 use Rattle.records.proofs.polygon.swap_remove.Statement.{statement}
 use Rattle.records.proofs.polygon.swap_remove.Tie as tie
@@ -18,7 +18,7 @@ sub-load-at c = search rules
 
 -- src/polygon.rt:122:9
 load-at-requires : tie.Need-load-at-requires
-load-at-requires c κs = let s = c.before.before in (search rules, search rules, every-at Small noPolygon _ s.requires.all (s.args.np - 1))
+load-at-requires c κs = let s = c.before.before in (search rules, search rules, every_at Small no_polygon _ s.requires.all (s.args.np - 1))
 
 -- src/polygon.rt:123:5
 store-at-requires : tie.Need-store-at-requires
@@ -44,7 +44,7 @@ same_length c = search rules
 returns : tie.Need-returns
 returns c =
     let s = c.before.before.before.before.before.before.before.before.before.before.before.before in
-    swap-steps s.args.work.now s.args.o s.args.np s.args.i s.requires c.before.before.before.before.before.before.before.before.before.load_at.ensures c.before.before.before.before.before.before.before.store_at.ensures c.before.before.before.blank.ensures.0 c.before.before.store-at2.ensures
+    swap_steps s.args.work.now s.args.o s.args.np s.args.i s.requires c.before.before.before.before.before.before.before.before.before.load_at.ensures c.before.before.before.before.before.before.before.store_at.ensures c.before.before.before.blank.ensures.0 c.before.before.store-at2.ensures
 
 pub swap-remove-spec : {M : Type 1} → statement M
 swap-remove-spec =

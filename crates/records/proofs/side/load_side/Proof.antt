@@ -1,6 +1,6 @@
 use Rattle.mem.specs.Tab.{tab}
 use Rattle.records.specs.Layout.{side_in}
-use Rattle.records.specs.Fixed.{side-fixed, word_at, fixed-loaded}
+use Rattle.records.specs.Fixed.{side_fixed, word_at, fixed_loaded}
 use borrow.Author.Rules.{rules}
 use Rattle.records.proofs.side.load_side.Statement.{statement}
 use Rattle.records.proofs.side.load_side.Tie as tie
@@ -62,7 +62,7 @@ shared-slice-read-t20 c = search rules
 -- src/side.rt:13:1
 returns : tie.Need-returns
 unfolding tab word_at side_in
-returns c = fixed-loaded side-fixed _ _ _ _ (search rules) (search rules)
+returns c = fixed_loaded side_fixed _ _ _ _ (search rules) (search rules)
 
 pub load-side-spec : {M : Type 1} → statement M
 load-side-spec =

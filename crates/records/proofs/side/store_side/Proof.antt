@@ -1,8 +1,8 @@
 use lib.ListN.{length-set}
 use mathlib.Core.List.{[], ◌∷◌}
 use native.Mathlib.Omega.{arith}
-use Rattle.records.specs.Layout.{sideWords}
-use Rattle.mem.specs.Slice.{setEach, stored-each}
+use Rattle.records.specs.Layout.{side_words}
+use Rattle.mem.specs.Slice.{set_each, stored_each}
 use borrow.Author.Rules.{rules}
 use Rattle.records.proofs.side.store_side.Statement.{statement}
 use Rattle.records.proofs.side.store_side.Tie as tie
@@ -59,8 +59,8 @@ same_length c = search rules
 
 -- src/side.rt:27:1
 returns : tie.Need-returns
-unfolding setEach sideWords
-returns c = stored-each _ _ _ (_ ∷ _ ∷ _ ∷ [])
+unfolding set_each side_words
+returns c = stored_each _ _ _ (_ ∷ _ ∷ _ ∷ [])
 
 pub store-side-spec : {M : Type 1} → statement M
 store-side-spec =

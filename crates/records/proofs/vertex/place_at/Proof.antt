@@ -1,6 +1,6 @@
 use mathlib.Core.Path.{refl}
 use native.Mathlib.Omega.{arith}
-use Rattle.records.specs.Vertices.{grid-x, grid-z, place-made}
+use Rattle.records.specs.Vertices.{grid_x, grid_z, place_made}
 use borrow.Author.Rules.{rules}
 use Rattle.records.proofs.vertex.place_at.Statement.{statement}
 use Rattle.records.proofs.vertex.place_at.Tie as tie
@@ -25,7 +25,7 @@ shared-slice-read-t8 c = search rules
 
 -- src/vertex.rt:36:12
 cast-t9 : tie.Need-overflow-cast-t9
-cast-t9 c = let s = c.before in record { fits = omega (arith, grid-x s.args.work.now s.args.vo s.args.nv s.args.k (search rules) s.requires.0) }
+cast-t9 c = let s = c.before in record { fits = omega (arith, grid_x s.args.work.now s.args.vo s.args.nv s.args.k (search rules) s.requires.0) }
 
 -- src/vertex.rt:37:17
 add-t10 : tie.Need-overflow-add-t10
@@ -41,11 +41,11 @@ shared-slice-read-t13 c = search rules
 
 -- src/vertex.rt:37:12
 cast-t14 : tie.Need-overflow-cast-t14
-cast-t14 c = let s = c.before.before in record { fits = omega (arith, grid-z s.args.work.now s.args.vo s.args.nv s.args.k (search rules) s.requires.0) }
+cast-t14 c = let s = c.before.before in record { fits = omega (arith, grid_z s.args.work.now s.args.vo s.args.nv s.args.k (search rules) s.requires.0) }
 
 -- src/vertex.rt:30:1
 returns : tie.Need-returns
-returns c = let s = c.before.before in place-made s.args.work.now s.args.vo s.args.nv s.args.k (search rules) s.requires.0 refl refl
+returns c = let s = c.before.before in place_made s.args.work.now s.args.vo s.args.nv s.args.k (search rules) s.requires.0 refl refl
 
 pub place-at-spec : {M : Type 1} → statement M
 place-at-spec =

@@ -1,6 +1,6 @@
 use lib.ListN.{length-set}
 use native.Mathlib.Omega.{arith}
-use Rattle.records.specs.Vertices.{stored-vertex}
+use Rattle.records.specs.Vertices.{stored_vertex}
 use borrow.Author.Rules.{rules}
 use Rattle.records.proofs.vertex.store_vertex.Statement.{statement}
 use Rattle.records.proofs.vertex.store_vertex.Tie as tie
@@ -81,7 +81,7 @@ same_length c = search rules
 
 -- src/vertex.rt:18:1
 returns : tie.Need-returns
-returns c = stored-vertex _ _ _ 0
+returns c = stored_vertex _ _ _ 0
 
 pub store-vertex-spec : {M : Type 1} → statement M
 store-vertex-spec =

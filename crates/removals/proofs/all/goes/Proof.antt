@@ -1,5 +1,5 @@
 -- `removals::all::goes` meets its contract: the mark, and then the test. Assumes nothing.
-use Rattle.removals.proofs.Tries.{test-ready, marked, unmarked}
+use Rattle.removals.proofs.Tries.{test_ready, marked, unmarked}
 use borrow.Author.Rules.{rules}
 use Rattle.removals.proofs.all.goes.Statement.{statement}
 use Rattle.removals.proofs.all.goes.Tie as tie
@@ -23,7 +23,7 @@ cast-can-remove-vertex : tie.Need-overflow-cast-can-remove-vertex
 cast-can-remove-vertex c = search rules
 
 can-remove-vertex-requires : tie.Need-can-remove-vertex-requires
-can-remove-vertex-requires c κs = test-ready c.before.before.before.before.before.requires.0
+can-remove-vertex-requires c κs = test_ready c.before.before.before.before.before.requires.0
 
 same_length : tie.Need-same-length
 same_length c = search rules

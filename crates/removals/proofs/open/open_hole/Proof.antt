@@ -1,44 +1,44 @@
 -- `removals::open::open_hole` meets its contract: what each step leaves is what the next asks for. Assumes nothing.
 use native.Mathlib.Omega.{arith}
-use Rattle.removals.proofs.Opens.{collect-ready, walk-fits, clear-ready, record-ready, walk-ready, close-ready, opened}
+use Rattle.removals.proofs.Opens.{collect_ready, walk_fits, clear_ready, record_ready, walk_ready, close_ready, opened}
 use borrow.Author.Rules.{rules}
 use Rattle.removals.proofs.open.open_hole.Statement.{statement}
 use Rattle.removals.proofs.open.open_hole.Tie as tie
 
 collect-sides-requires : tie.Need-collect-sides-requires
-collect-sides-requires c κs = collect-ready c.before.before.requires
+collect-sides-requires c κs = collect_ready c.before.before.requires
 
 clear-polygons-requires : tie.Need-clear-polygons-requires
-clear-polygons-requires c κs = clear-ready c.before.before.before.before.before.before.requires c.before.before.before.collect-sides.ensures
+clear-polygons-requires c κs = clear_ready c.before.before.before.before.before.before.requires c.before.before.before.collect-sides.ensures
 
 remove-record-requires : tie.Need-remove-record-requires
-remove-record-requires c κs = record-ready c.before.before.before.before.before.before.before.before.before.before.requires c.before.before.before.before.before.before.before.collect-sides.ensures c.before.before.before.clear-polygons.ensures
+remove-record-requires c κs = record_ready c.before.before.before.before.before.before.before.before.before.before.requires c.before.before.before.before.before.before.before.collect-sides.ensures c.before.before.before.clear-polygons.ensures
 
 mul-e : tie.Need-overflow-mul-e
-mul-e c = let h = walk-fits c.before.before.before.before.before.before.before.before.before.before.before.before.before.requires c.before.before.before.before.before.before.before.before.before.before.collect-sides.ensures in search rules
+mul-e c = let h = walk_fits c.before.before.before.before.before.before.before.before.before.before.before.before.before.requires c.before.before.before.before.before.before.before.before.before.before.collect-sides.ensures in search rules
 
 add-e : tie.Need-overflow-add-e
-add-e c = let h = walk-fits c.before.before.before.before.before.before.before.before.before.before.before.before.before.before.requires c.before.before.before.before.before.before.before.before.before.before.before.collect-sides.ensures in search rules
+add-e c = let h = walk_fits c.before.before.before.before.before.before.before.before.before.before.before.before.before.before.requires c.before.before.before.before.before.before.before.before.before.before.before.collect-sides.ensures in search rules
 
 add-e-2 : tie.Need-overflow-add-e-2
-add-e-2 c = let h = walk-fits c.before.before.before.before.before.before.before.before.before.before.before.before.before.before.requires c.before.before.before.before.before.before.before.before.before.before.before.collect-sides.ensures in search rules
+add-e-2 c = let h = walk_fits c.before.before.before.before.before.before.before.before.before.before.before.before.before.before.requires c.before.before.before.before.before.before.before.before.before.before.before.collect-sides.ensures in search rules
 
 add-e-3 : tie.Need-overflow-add-e-3
-add-e-3 c = let h = walk-fits c.before.before.before.before.before.before.before.before.before.before.before.before.before.before.requires c.before.before.before.before.before.before.before.before.before.before.before.collect-sides.ensures in search rules
+add-e-3 c = let h = walk_fits c.before.before.before.before.before.before.before.before.before.before.before.before.before.before.requires c.before.before.before.before.before.before.before.before.before.before.before.collect-sides.ensures in search rules
 
 mul-e-2 : tie.Need-overflow-mul-e-2
-mul-e-2 c = let h = walk-fits c.before.before.before.before.before.before.before.before.before.before.before.before.before.before.requires c.before.before.before.before.before.before.before.before.before.before.before.collect-sides.ensures in search rules
+mul-e-2 c = let h = walk_fits c.before.before.before.before.before.before.before.before.before.before.before.before.before.before.requires c.before.before.before.before.before.before.before.before.before.before.before.collect-sides.ensures in search rules
 
 add-e-4 : tie.Need-overflow-add-e-4
-add-e-4 c = let h = walk-fits c.before.before.before.before.before.before.before.before.before.before.before.before.before.before.requires c.before.before.before.before.before.before.before.before.before.before.before.collect-sides.ensures in search rules
+add-e-4 c = let h = walk_fits c.before.before.before.before.before.before.before.before.before.before.before.before.before.before.requires c.before.before.before.before.before.before.before.before.before.before.before.collect-sides.ensures in search rules
 
 walk-sides-requires : tie.Need-walk-sides-requires
 walk-sides-requires c κs =
-    walk-ready c.before.before.before.before.before.before.before.before.before.before.before.before.before.before.before.requires c.before.before.before.before.before.before.before.before.before.before.before.before.collect-sides.ensures c.before.before.before.before.before.before.before.before.clear-polygons.ensures c.before.before.before.before.remove-record.ensures (omega arith)
+    walk_ready c.before.before.before.before.before.before.before.before.before.before.before.before.before.before.before.requires c.before.before.before.before.before.before.before.before.before.before.before.before.collect-sides.ensures c.before.before.before.before.before.before.before.before.clear-polygons.ensures c.before.before.before.before.remove-record.ensures (omega arith)
 
 close-hole-requires : tie.Need-close-hole-requires
 close-hole-requires c κs =
-    close-ready c.before.before.before.before.before.before.before.before.before.before.before.before.before.before.before.before.before.before.before.requires c.before.before.before.before.before.before.before.before.before.before.before.before.before.before.before.before.collect-sides.ensures c.before.before.before.before.before.before.before.before.before.before.before.before.clear-polygons.ensures c.before.before.before.before.before.before.before.before.remove-record.ensures (omega arith) c.before.before.before.walk-sides.ensures
+    close_ready c.before.before.before.before.before.before.before.before.before.before.before.before.before.before.before.before.before.before.before.requires c.before.before.before.before.before.before.before.before.before.before.before.before.before.before.before.before.collect-sides.ensures c.before.before.before.before.before.before.before.before.before.before.before.before.clear-polygons.ensures c.before.before.before.before.before.before.before.before.remove-record.ensures (omega arith) c.before.before.before.walk-sides.ensures
 
 same_length : tie.Need-same-length
 same_length c = search rules

@@ -1,17 +1,17 @@
 -- `removals::remove::remove_vertex` meets its contract: the hole that is left is filled, or it has no ear. Assumes nothing.
-use Rattle.removals.proofs.Removes.{open-ready, least, most, at-fits, fill-ready, filled-few, tidy-ready, filled-answer, filled-words, empty-fits, empty-answer, empty-words}
+use Rattle.removals.proofs.Removes.{open_ready, least, most, at_fits, fill_ready, filled_few, tidy_ready, filled_answer, filled_words, empty_fits, empty_answer, empty_words}
 use borrow.Author.Rules.{rules}
 use Rattle.removals.proofs.remove.remove_vertex.Statement.{statement}
 use Rattle.removals.proofs.remove.remove_vertex.Tie as tie
 
 open-hole-requires : tie.Need-open-hole-requires
-open-hole-requires c κs = open-ready c.before.before.requires
+open-hole-requires c κs = open_ready c.before.before.requires
 
 mul_at : tie.Need-overflow-mul-at
-mul_at c = let h = at-fits c.before.before.before.before.before.before.requires c.before.before.before.open-hole.ensures in search rules
+mul_at c = let h = at_fits c.before.before.before.before.before.before.requires c.before.before.before.open-hole.ensures in search rules
 
 add_at : tie.Need-overflow-add-at
-add_at c = let h = at-fits c.before.before.before.before.before.before.before.requires c.before.before.before.before.open-hole.ensures in search rules
+add_at c = let h = at_fits c.before.before.before.before.before.before.before.requires c.before.before.before.before.open-hole.ensures in search rules
 
 mul-places : tie.Need-overflow-mul-places
 mul-places c = search rules
@@ -32,7 +32,7 @@ sub-fill-hole : tie.Need-overflow-sub-fill-hole
 sub-fill-hole c = search rules
 
 fill-hole-requires : tie.Need-fill-hole-requires
-fill-hole-requires c κs = fill-ready c.before.before.before.before.before.before.before.before.before.before.before.before.before.before.requires c.before.before.before.before.before.before.before.before.before.before.before.open-hole.ensures
+fill-hole-requires c κs = fill_ready c.before.before.before.before.before.before.before.before.before.before.before.before.before.before.requires c.before.before.before.before.before.before.before.before.before.before.before.open-hole.ensures
 
 enum-known-k : tie.Need-enum-known-k
 enum-known-k c = search rules
@@ -41,13 +41,13 @@ add-np : tie.Need-overflow-add-np
 add-np c =
     let o = c.before.before.before.before.before.before.before.before.before.before.before.before.before.before.before.before.before.before.open-hole.ensures in
     let e = c.before.before.before.before.before.before.fill-hole.ensures in
-    let h = filled-few c.before.before.before.before.before.before.before.before.before.before.before.before.before.before.before.before.before.before.before.before.before.requires o e.1 (rw c.before.before.k.given.1 at e.0) in
+    let h = filled_few c.before.before.before.before.before.before.before.before.before.before.before.before.before.before.before.before.before.before.before.before.before.requires o e.1 (rw c.before.before.k.given.1 at e.0) in
     search rules
 
 tidy-up-requires : tie.Need-tidy-up-requires
 tidy-up-requires c κs =
     let e = c.before.before.before.before.before.before.before.fill-hole.ensures in
-    tidy-ready c.before.before.before.before.before.before.before.before.before.before.before.before.before.before.before.before.before.before.before.before.before.before.requires c.before.before.before.before.before.before.before.before.before.before.before.before.before.before.before.before.before.before.before.open-hole.ensures e.1 (rw c.before.before.before.k.given.1 at e.0) c.before.before.before.before.before.before.before.before.before.before.greater.ensures
+    tidy_ready c.before.before.before.before.before.before.before.before.before.before.before.before.before.before.before.before.before.before.before.before.before.before.requires c.before.before.before.before.before.before.before.before.before.before.before.before.before.before.before.before.before.before.before.open-hole.ensures e.1 (rw c.before.before.before.k.given.1 at e.0) c.before.before.before.before.before.before.before.before.before.before.greater.ensures
 
 same_length : tie.Need-same-length
 same_length c = search rules
@@ -59,7 +59,7 @@ returns c =
     let e = c.before.before.before.before.before.before.before.before.before.before.fill-hole.ensures in
     let a = rw c.before.before.before.before.before.before.k.given.1 at e.0 in
     let g = c.before.before.before.before.before.before.before.before.before.before.before.before.before.greater.ensures in
-    (filled-answer r o e.1 a g, filled-words r o e.1 a g c.before.before.tidy-up.ensures)
+    (filled_answer r o e.1 a g, filled_words r o e.1 a g c.before.before.tidy-up.ensures)
 
 enum_told : tie.Need-enum-told
 enum_told c = search rules
@@ -67,7 +67,7 @@ enum_told c = search rules
 wipe-mesh-requires : tie.Need-wipe-mesh-requires
 wipe-mesh-requires c κs =
     let e = c.before.before.before.before.before.fill-hole.ensures in
-    empty-fits c.before.before.before.before.before.before.before.before.before.before.before.before.before.before.before.before.before.before.before.before.requires c.before.before.before.before.before.before.before.before.before.before.before.before.before.before.before.before.before.open-hole.ensures e.1 (rw c.before.enum_told.given.1 at e.0)
+    empty_fits c.before.before.before.before.before.before.before.before.before.before.before.before.before.before.before.before.before.before.before.before.requires c.before.before.before.before.before.before.before.before.before.before.before.before.before.before.before.before.before.open-hole.ensures e.1 (rw c.before.enum_told.given.1 at e.0)
 
 same-length-2 : tie.Need-same-length-2
 same-length-2 c = search rules
@@ -78,7 +78,7 @@ returns-2 c =
     let o = c.before.before.before.before.before.before.before.before.before.before.before.before.before.before.before.before.before.before.before.before.open-hole.ensures in
     let e = c.before.before.before.before.before.before.before.before.fill-hole.ensures in
     let a = rw c.before.before.before.before.enum_told.given.1 at e.0 in
-    (empty-answer r o e.1 a, empty-words r o e.1 a c.before.before.wipe-mesh.ensures)
+    (empty_answer r o e.1 a, empty_words r o e.1 a c.before.before.wipe-mesh.ensures)
 
 pub remove-vertex-spec : {M : Type 1} → statement M
 remove-vertex-spec =

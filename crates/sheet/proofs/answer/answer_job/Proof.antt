@@ -2,24 +2,24 @@
 -- Assumes nothing.
 use mathlib.Core.Path.{◌≡◌, refl, sym}
 use lib.ListN.{replicate}
-use Rattle.rules.specs.Job.{countAll}
-use Rattle.rules.specs.Checks.{lengthsOf}
+use Rattle.rules.specs.Job.{count_all}
+use Rattle.rules.specs.Checks.{lengths_of}
 use Rattle.outputs.specs.Ready.{buffers}
-use Rattle.sheet.specs.Reading.{sheetOf, withLists}
-use Rattle.sheet.specs.Room.{printed-short}
+use Rattle.sheet.specs.Reading.{sheet_of, with_lists}
+use Rattle.sheet.specs.Room.{printed_short}
 use Rattle.sheet.specs.Answers.{Called}
-use Rattle.sheet.specs.Answering.{jobText}
+use Rattle.sheet.specs.Answering.{job_text}
 use Rattle.lines.specs.Print.{Printed}
-use Rattle.lines.specs.Printing.{printed-as, printed-same-length}
-use Rattle.sheet.specs.Enough.{sheetLengths}
-use Rattle.sheet.proofs.Replying.{seven, reply-text, job-room, reply-ready}
+use Rattle.lines.specs.Printing.{printed_as, printed_same_length}
+use Rattle.sheet.specs.Enough.{sheet_lengths}
+use Rattle.sheet.proofs.Replying.{seven, reply_text_lem, job_room, reply_ready}
 use borrow.Author.Rules.{rules}
 use Rattle.sheet.proofs.answer.answer_job.Statement.{statement}
 use Rattle.sheet.proofs.answer.answer_job.Tie as tie
 
 -- the call of the build
-called : (c : tie.After-into-polygon-mesh) → Called (withLists (sheetOf c.before.before.before.before.before.before.before.before.before.before.before.before.before.before.args.x) c.before.before.before.before.before.before.before.before.before.before.before.before.before.before.args.lengths.now c.before.before.before.before.before.before.before.before.before.before.before.before.before.before.args.regions.now c.before.before.before.before.before.before.before.before.before.before.before.before.before.before.args.codes.now c.before.before.before.before.before.before.before.before.before.before.before.before.before.before.args.numbers.now) c.before.before.before.before.before.before.before.before.header_of.result (buffers (replicate 288 0) (replicate 1152 0) (replicate 1152 0) (replicate 96 0) (replicate 96 0) (replicate 96 0) (replicate 16384 0)) c.into-polygon-mesh.result (buffers c.into-polygon-mesh.new.1.1.1.1.1.1.1.1.1.0 c.into-polygon-mesh.new.1.1.1.1.1.1.1.1.1.1.0 c.into-polygon-mesh.new.1.1.1.1.1.1.1.1.1.1.1.0 c.into-polygon-mesh.new.1.1.1.1.1.1.1.1.1.1.1.1.0 c.into-polygon-mesh.new.1.1.1.1.1.1.1.1.1.1.1.1.1.0 c.into-polygon-mesh.new.1.1.1.1.1.1.1.1.1.1.1.1.1.1.0 c.into-polygon-mesh.new.1.1.1.1.1.1.1.1.1.1.1.1.1.1.1.0)
-unfolding withLists sheetOf lengthsOf countAll
+called : (c : tie.After-into-polygon-mesh) → Called (with_lists (sheet_of c.before.before.before.before.before.before.before.before.before.before.before.before.before.before.args.x) c.before.before.before.before.before.before.before.before.before.before.before.before.before.before.args.lengths.now c.before.before.before.before.before.before.before.before.before.before.before.before.before.before.args.regions.now c.before.before.before.before.before.before.before.before.before.before.before.before.before.before.args.codes.now c.before.before.before.before.before.before.before.before.before.before.before.before.before.before.args.numbers.now) c.before.before.before.before.before.before.before.before.header_of.result (buffers (replicate 288 0) (replicate 1152 0) (replicate 1152 0) (replicate 96 0) (replicate 96 0) (replicate 96 0) (replicate 16384 0)) c.into-polygon-mesh.result (buffers c.into-polygon-mesh.new.1.1.1.1.1.1.1.1.1.0 c.into-polygon-mesh.new.1.1.1.1.1.1.1.1.1.1.0 c.into-polygon-mesh.new.1.1.1.1.1.1.1.1.1.1.1.0 c.into-polygon-mesh.new.1.1.1.1.1.1.1.1.1.1.1.1.0 c.into-polygon-mesh.new.1.1.1.1.1.1.1.1.1.1.1.1.1.0 c.into-polygon-mesh.new.1.1.1.1.1.1.1.1.1.1.1.1.1.1.0 c.into-polygon-mesh.new.1.1.1.1.1.1.1.1.1.1.1.1.1.1.1.0)
+unfolding with_lists sheet_of lengths_of count_all
 called c = record {
   answered = c.into-polygon-mesh.ensures.0;
   left = c.into-polygon-mesh.ensures.1.0;
@@ -28,8 +28,8 @@ called c = record {
 }
 
 -- the buffers keep their lengths
-kept : (c : tie.After-into-polygon-mesh) → lengthsOf (buffers c.into-polygon-mesh.new.1.1.1.1.1.1.1.1.1.0 c.into-polygon-mesh.new.1.1.1.1.1.1.1.1.1.1.0 c.into-polygon-mesh.new.1.1.1.1.1.1.1.1.1.1.1.0 c.into-polygon-mesh.new.1.1.1.1.1.1.1.1.1.1.1.1.0 c.into-polygon-mesh.new.1.1.1.1.1.1.1.1.1.1.1.1.1.0 c.into-polygon-mesh.new.1.1.1.1.1.1.1.1.1.1.1.1.1.1.0 c.into-polygon-mesh.new.1.1.1.1.1.1.1.1.1.1.1.1.1.1.1.0) ≡ sheetLengths
-unfolding lengthsOf
+kept : (c : tie.After-into-polygon-mesh) → lengths_of (buffers c.into-polygon-mesh.new.1.1.1.1.1.1.1.1.1.0 c.into-polygon-mesh.new.1.1.1.1.1.1.1.1.1.1.0 c.into-polygon-mesh.new.1.1.1.1.1.1.1.1.1.1.1.0 c.into-polygon-mesh.new.1.1.1.1.1.1.1.1.1.1.1.1.0 c.into-polygon-mesh.new.1.1.1.1.1.1.1.1.1.1.1.1.1.0 c.into-polygon-mesh.new.1.1.1.1.1.1.1.1.1.1.1.1.1.1.0 c.into-polygon-mesh.new.1.1.1.1.1.1.1.1.1.1.1.1.1.1.1.0) ≡ sheet_lengths
+unfolding lengths_of
 kept c = seven c.into-polygon-mesh.auto.1.1.1.1.1.1.1.1.1.0 c.into-polygon-mesh.auto.1.1.1.1.1.1.1.1.1.1.0 c.into-polygon-mesh.auto.1.1.1.1.1.1.1.1.1.1.1.0 c.into-polygon-mesh.auto.1.1.1.1.1.1.1.1.1.1.1.1.0 c.into-polygon-mesh.auto.1.1.1.1.1.1.1.1.1.1.1.1.1.0 c.into-polygon-mesh.auto.1.1.1.1.1.1.1.1.1.1.1.1.1.1.0 c.into-polygon-mesh.auto.1.1.1.1.1.1.1.1.1.1.1.1.1.1.1.0
 
 header-of-requires : tie.Need-header-of-requires
@@ -75,17 +75,17 @@ slice-aggregate-put-reply-5 : tie.Need-slice-aggregate-put-reply-5
 slice-aggregate-put-reply-5 c = search rules
 
 put-reply-requires : tie.Need-put-reply-requires
-put-reply-requires c κs = reply-ready c.before.before.before.before.before.before.before.before.before.before.before.before.before.before.before.before.before.before.before.before.before.before.before.before.before.before.before.args.x c.before.before.before.before.before.before.before.before.before.before.before.before.before.before.before.before.before.before.before.before.before.before.before.before.before.before.before.args.lengths.now c.before.before.before.before.before.before.before.before.before.before.before.before.before.before.before.before.before.before.before.before.before.before.before.before.before.before.before.args.regions.now c.before.before.before.before.before.before.before.before.before.before.before.before.before.before.before.before.before.before.before.before.before.before.before.before.before.before.before.args.codes.now c.before.before.before.before.before.before.before.before.before.before.before.before.before.before.before.before.before.before.before.before.before.before.before.before.before.before.before.args.numbers.now (called c.before.before.before.before.before.before.before.before.before.before.before.before.before) (kept c.before.before.before.before.before.before.before.before.before.before.before.before.before) c.before.before.before.before.before.before.before.before.before.before.before.before.before.before.before.before.before.before.before.before.before.before.before.before.before.before.before.args.out.now c.before.before.before.before.before.before.before.before.before.before.before.before.before.before.before.before.before.before.before.before.before.before.before.before.before.before.before.requires.room
+put-reply-requires c κs = reply_ready c.before.before.before.before.before.before.before.before.before.before.before.before.before.before.before.before.before.before.before.before.before.before.before.before.before.before.before.args.x c.before.before.before.before.before.before.before.before.before.before.before.before.before.before.before.before.before.before.before.before.before.before.before.before.before.before.before.args.lengths.now c.before.before.before.before.before.before.before.before.before.before.before.before.before.before.before.before.before.before.before.before.before.before.before.before.before.before.before.args.regions.now c.before.before.before.before.before.before.before.before.before.before.before.before.before.before.before.before.before.before.before.before.before.before.before.before.before.before.before.args.codes.now c.before.before.before.before.before.before.before.before.before.before.before.before.before.before.before.before.before.before.before.before.before.before.before.before.before.before.before.args.numbers.now (called c.before.before.before.before.before.before.before.before.before.before.before.before.before) (kept c.before.before.before.before.before.before.before.before.before.before.before.before.before) c.before.before.before.before.before.before.before.before.before.before.before.before.before.before.before.before.before.before.before.before.before.before.before.before.before.before.before.args.out.now c.before.before.before.before.before.before.before.before.before.before.before.before.before.before.before.before.before.before.before.before.before.before.before.before.before.before.before.requires.room
 
 -- what is printed
-whole : (c : tie.After-slice-known2) → Printed (jobText c.before.before.before.before.before.before.before.before.before.before.before.before.before.before.before.before.before.before.before.before.before.before.before.before.before.before.before.before.before.before.args.x c.before.before.before.before.before.before.before.before.before.before.before.before.before.before.before.before.before.before.before.before.before.before.before.before.before.before.before.before.before.before.args.lengths.now c.before.before.before.before.before.before.before.before.before.before.before.before.before.before.before.before.before.before.before.before.before.before.before.before.before.before.before.before.before.before.args.regions.now c.before.before.before.before.before.before.before.before.before.before.before.before.before.before.before.before.before.before.before.before.before.before.before.before.before.before.before.before.before.before.args.codes.now c.before.before.before.before.before.before.before.before.before.before.before.before.before.before.before.before.before.before.before.before.before.before.before.before.before.before.before.before.before.before.args.numbers.now) c.before.before.before.before.before.before.before.before.before.before.before.before.before.before.before.before.before.before.before.before.before.before.before.before.before.before.before.before.before.before.args.out.now c.before.before.put-reply.new.1.1.1.1.1.1.1.0 0 c.before.before.put-reply.result
-whole c = printed-as c.before.before.put-reply.ensures (sym (reply-text c.before.before.before.before.before.before.before.before.before.before.before.before.before.before.before.before.before.before.before.before.before.before.before.before.before.before.before.before.before.before.args.x c.before.before.before.before.before.before.before.before.before.before.before.before.before.before.before.before.before.before.before.before.before.before.before.before.before.before.before.before.before.before.args.lengths.now c.before.before.before.before.before.before.before.before.before.before.before.before.before.before.before.before.before.before.before.before.before.before.before.before.before.before.before.before.before.before.args.regions.now c.before.before.before.before.before.before.before.before.before.before.before.before.before.before.before.before.before.before.before.before.before.before.before.before.before.before.before.before.before.before.args.codes.now c.before.before.before.before.before.before.before.before.before.before.before.before.before.before.before.before.before.before.before.before.before.before.before.before.before.before.before.before.before.before.args.numbers.now (called c.before.before.before.before.before.before.before.before.before.before.before.before.before.before.before.before)))
+whole : (c : tie.After-slice-known2) → Printed (job_text c.before.before.before.before.before.before.before.before.before.before.before.before.before.before.before.before.before.before.before.before.before.before.before.before.before.before.before.before.before.before.args.x c.before.before.before.before.before.before.before.before.before.before.before.before.before.before.before.before.before.before.before.before.before.before.before.before.before.before.before.before.before.before.args.lengths.now c.before.before.before.before.before.before.before.before.before.before.before.before.before.before.before.before.before.before.before.before.before.before.before.before.before.before.before.before.before.before.args.regions.now c.before.before.before.before.before.before.before.before.before.before.before.before.before.before.before.before.before.before.before.before.before.before.before.before.before.before.before.before.before.before.args.codes.now c.before.before.before.before.before.before.before.before.before.before.before.before.before.before.before.before.before.before.before.before.before.before.before.before.before.before.before.before.before.before.args.numbers.now) c.before.before.before.before.before.before.before.before.before.before.before.before.before.before.before.before.before.before.before.before.before.before.before.before.before.before.before.before.before.before.args.out.now c.before.before.put-reply.new.1.1.1.1.1.1.1.0 0 c.before.before.put-reply.result
+whole c = printed_as c.before.before.put-reply.ensures (sym (reply_text_lem c.before.before.before.before.before.before.before.before.before.before.before.before.before.before.before.before.before.before.before.before.before.before.before.before.before.before.before.before.before.before.args.x c.before.before.before.before.before.before.before.before.before.before.before.before.before.before.before.before.before.before.before.before.before.before.before.before.before.before.before.before.before.before.args.lengths.now c.before.before.before.before.before.before.before.before.before.before.before.before.before.before.before.before.before.before.before.before.before.before.before.before.before.before.before.before.before.before.args.regions.now c.before.before.before.before.before.before.before.before.before.before.before.before.before.before.before.before.before.before.before.before.before.before.before.before.before.before.before.before.before.before.args.codes.now c.before.before.before.before.before.before.before.before.before.before.before.before.before.before.before.before.before.before.before.before.before.before.before.before.before.before.before.before.before.before.args.numbers.now (called c.before.before.before.before.before.before.before.before.before.before.before.before.before.before.before.before)))
 
 returns : tie.Need-returns
-returns c = (whole c, printed-short (whole c) (job-room c.before.before.before.before.before.before.before.before.before.before.before.before.before.before.before.before.before.before.before.before.before.before.before.before.before.before.before.before.before.before.args.x c.before.before.before.before.before.before.before.before.before.before.before.before.before.before.before.before.before.before.before.before.before.before.before.before.before.before.before.before.before.before.args.lengths.now c.before.before.before.before.before.before.before.before.before.before.before.before.before.before.before.before.before.before.before.before.before.before.before.before.before.before.before.before.before.before.args.regions.now c.before.before.before.before.before.before.before.before.before.before.before.before.before.before.before.before.before.before.before.before.before.before.before.before.before.before.before.before.before.before.args.codes.now c.before.before.before.before.before.before.before.before.before.before.before.before.before.before.before.before.before.before.before.before.before.before.before.before.before.before.before.before.before.before.args.numbers.now (called c.before.before.before.before.before.before.before.before.before.before.before.before.before.before.before.before)))
+returns c = (whole c, printed_short (whole c) (job_room c.before.before.before.before.before.before.before.before.before.before.before.before.before.before.before.before.before.before.before.before.before.before.before.before.before.before.before.before.before.before.args.x c.before.before.before.before.before.before.before.before.before.before.before.before.before.before.before.before.before.before.before.before.before.before.before.before.before.before.before.before.before.before.args.lengths.now c.before.before.before.before.before.before.before.before.before.before.before.before.before.before.before.before.before.before.before.before.before.before.before.before.before.before.before.before.before.before.args.regions.now c.before.before.before.before.before.before.before.before.before.before.before.before.before.before.before.before.before.before.before.before.before.before.before.before.before.before.before.before.before.before.args.codes.now c.before.before.before.before.before.before.before.before.before.before.before.before.before.before.before.before.before.before.before.before.before.before.before.before.before.before.before.before.before.before.args.numbers.now (called c.before.before.before.before.before.before.before.before.before.before.before.before.before.before.before.before)))
 
 same_length : tie.Need-same-length
-same_length c = printed-same-length (whole c)
+same_length c = printed_same_length (whole c)
 
 pub answer-job-spec : {M : Type 1} → statement M
 answer-job-spec =

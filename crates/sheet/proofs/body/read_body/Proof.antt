@@ -4,7 +4,7 @@ use Prim.Native.Nat.{◌-◌}
 use native.Mathlib.Omega.{arith}
 use lib.ListN.{length}
 use borrow.Author.Rules.{rules}
-use Rattle.sheet.proofs.Bodies.{Going, going-begin, going-ready, going_next, going-refused, going-due, going_end}
+use Rattle.sheet.proofs.Bodies.{Going, going_begin, going_ready, going_next, going_refused, going_due, going_end}
 use Rattle.sheet.proofs.body.read_body.Statement.{statement}
 use Rattle.sheet.proofs.body.read_body.Tie as tie
 
@@ -15,10 +15,10 @@ abbrev decreases-loop : tie.decreases-loop
 decreases-loop text from lengths₀ regions₀ codes₀ numbers₀ p₀ lengths regions codes numbers p = length text - p.at
 
 loop-holds : tie.Need-loop-init invariant-loop decreases-loop
-loop-holds c = going-begin c.before.before.before.before.before.requires
+loop-holds c = going_begin c.before.before.before.before.before.requires
 
 one-line-requires : tie.Need-one-line-requires invariant-loop decreases-loop
-one-line-requires c κs = going-ready c.before.before.before.before.before.before.loop.invariant (omega arith)
+one-line-requires c κs = going_ready c.before.before.before.before.before.before.loop.invariant (omega arith)
 
 same_length : tie.Need-same-length invariant-loop decreases-loop
 same_length c = search rules
@@ -33,7 +33,7 @@ same-length-4 : tie.Need-same-length-4 invariant-loop decreases-loop
 same-length-4 c = search rules
 
 returns : tie.Need-returns invariant-loop decreases-loop
-returns c = going-refused c.before.before.before.before.before.before.before.before.before.before.before.before.before.before.before.before.before.loop.invariant c.before.before.before.before.before.before.before.before.before.before.one_line.ensures (omega arith)
+returns c = going_refused c.before.before.before.before.before.before.before.before.before.before.before.before.before.before.before.before.before.loop.invariant c.before.before.before.before.before.before.before.before.before.before.one_line.ensures (omega arith)
 
 loop-less : tie.Need-loop-smaller invariant-loop decreases-loop
 loop-less c = let f = c.before.before.before.before.before.before.before.before.before.before.one_line.ensures.further (omega arith) in omega arith
@@ -57,7 +57,7 @@ same-length-8 : tie.Need-same-length-8 invariant-loop decreases-loop
 same-length-8 c = search rules
 
 returns-2 : tie.Need-returns-2 invariant-loop decreases-loop
-returns-2 c = going-due c.before.before.before.before.before.loop.invariant (omega arith) (omega arith) c.stopped.ensures
+returns-2 c = going_due c.before.before.before.before.before.loop.invariant (omega arith) (omega arith) c.stopped.ensures
 
 same-length-9 : tie.Need-same-length-9 invariant-loop decreases-loop
 same-length-9 c = search rules

@@ -2,17 +2,17 @@
 use native.Mathlib.Omega.{arith}
 use lib.ListN.{length-set}
 use borrow.Author.Rules.{rules}
-use Rattle.rules.specs.Sheet.{vName}
+use Rattle.rules.specs.Sheet.{v_name}
 use Rattle.rules.specs.Lines.{ascii}
-use Rattle.lines.specs.Taken.{good-read, bad-read}
-use Rattle.sheet.proofs.BodyLines.{VertexGood, vertex-most, vertex-bad, vertex-put}
+use Rattle.lines.specs.Taken.{good_read, bad_read}
+use Rattle.sheet.proofs.BodyLines.{VertexGood, vertex_most, vertex_bad, vertex_put}
 use Rattle.sheet.proofs.body.vertex_line.Statement.{statement}
 use Rattle.sheet.proofs.body.vertex_line.Tie as tie
 
 -- the line is good
-good-line : (c : tie.Then1) → VertexGood c.before.before.before.before.before.before.args.text.now c.before.before.before.before.before.before.args.p.at c.before.read-line.result
-unfolding vName ascii
-good-line c = good-read _ _ _ _ _ c.before.read-line.ensures c.if1.true
+good_line : (c : tie.Then1) → VertexGood c.before.before.before.before.before.before.args.text.now c.before.before.before.before.before.before.args.p.at c.before.read-line.result
+unfolding v_name ascii
+good_line c = good_read _ _ _ _ _ c.before.read-line.ensures c.if1.true
 
 slice-aggregate-read-line : tie.Need-slice-aggregate-read-line
 slice-aggregate-read-line c = search rules
@@ -27,7 +27,7 @@ mul-k : tie.Need-overflow-mul-k
 mul-k c = search rules
 
 cast-numbers : tie.Need-overflow-cast-numbers
-cast-numbers c = record { fits = omega (arith, vertex-most (good-line c.before.before)) }
+cast-numbers c = record { fits = omega (arith, vertex_most (good_line c.before.before)) }
 
 mul-numbers : tie.Need-overflow-mul-numbers
 mul-numbers c = search rules
@@ -36,7 +36,7 @@ slice-write-numbers : tie.Need-slice-write-numbers
 slice-write-numbers c = search rules
 
 cast-numbers-2 : tie.Need-overflow-cast-numbers-2
-cast-numbers-2 c = record { fits = omega (arith, vertex-most (good-line c.before.before.before)) }
+cast-numbers-2 c = record { fits = omega (arith, vertex_most (good_line c.before.before.before)) }
 
 add-numbers : tie.Need-overflow-add-numbers
 add-numbers c = search rules
@@ -48,7 +48,7 @@ slice-write-numbers-2 : tie.Need-slice-write-numbers-2
 slice-write-numbers-2 c = simp length-set (omega (arith, c.before.before.before.before.before.before.before.before.before.requires.within.room, c.before.before.before.before.before.before.before.before.before.requires.due, c.before.before.before.before.before.before.before.before.before.requires.numbers))
 
 cast-numbers-3 : tie.Need-overflow-cast-numbers-3
-cast-numbers-3 c = record { fits = omega (arith, vertex-most (good-line c.before.before.before.before)) }
+cast-numbers-3 c = record { fits = omega (arith, vertex_most (good_line c.before.before.before.before)) }
 
 add-numbers-2 : tie.Need-overflow-add-numbers-2
 add-numbers-2 c = search rules
@@ -60,7 +60,7 @@ slice-write-numbers-3 : tie.Need-slice-write-numbers-3
 slice-write-numbers-3 c = simp length-set (omega (arith, c.before.before.before.before.before.before.before.before.before.before.requires.within.room, c.before.before.before.before.before.before.before.before.before.before.requires.due, c.before.before.before.before.before.before.before.before.before.before.requires.numbers))
 
 cast-numbers-4 : tie.Need-overflow-cast-numbers-4
-cast-numbers-4 c = record { fits = omega (arith, vertex-most (good-line c.before.before.before.before.before)) }
+cast-numbers-4 c = record { fits = omega (arith, vertex_most (good_line c.before.before.before.before.before)) }
 
 add-numbers-3 : tie.Need-overflow-add-numbers-3
 add-numbers-3 c = search rules
@@ -84,16 +84,16 @@ same_length : tie.Need-same-length
 same_length c = search rules
 
 returns : tie.Need-returns
-returns c = let a = c.before.before.before.before.before.before.before.before.before.before.before.before.before.before.args in vertex-put a.text.now a.p a.numbers.now (good-line c.before.before.before.before.before.before.before.before)
+returns c = let a = c.before.before.before.before.before.before.before.before.before.before.before.before.before.before.args in vertex_put a.text.now a.p a.numbers.now (good_line c.before.before.before.before.before.before.before.before)
 
 stopped-requires : tie.Need-stopped-requires
 stopped-requires c κs = search rules
 
 returns-2 : tie.Need-returns-2
-unfolding vName ascii
+unfolding v_name ascii
 returns-2 c =
     let a = c.before.before.before.before.before.before.before.args in
-    vertex-bad a.text.now a.p a.numbers.now (bad-read _ _ _ _ _ c.before.before.read-line.ensures c.before.if1.false) c.stopped.ensures
+    vertex_bad a.text.now a.p a.numbers.now (bad_read _ _ _ _ _ c.before.before.read-line.ensures c.before.if1.false) c.stopped.ensures
 
 pub vertex-line-spec : {M : Type 1} → statement M
 vertex-line-spec =

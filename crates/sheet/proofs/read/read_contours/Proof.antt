@@ -1,6 +1,6 @@
 -- `sheet::read::read_contours` meets its contract: the lines behind the heading were read as far as their end, or as far as the bad one. Assumes nothing.
 use borrow.Author.Rules.{rules}
-use Rattle.sheet.specs.Texts.{bad-body, good-body}
+use Rattle.sheet.specs.Texts.{bad_body, good_body}
 use Rattle.sheet.proofs.read.read_contours.Statement.{statement}
 use Rattle.sheet.proofs.read.read_contours.Tie as tie
 
@@ -23,7 +23,7 @@ returns : tie.Need-returns
 returns c =
     let b = c.before.before.before.before.before.before.before.before.before.before in
     let s = b.before.before.before.before.before.before.before.before.before.before in
-    bad-body s.args.text.now _ _ _ _ s.args.x b.read-body.result b.read-body.ensures c.if1.true
+    bad_body s.args.text.now _ _ _ _ s.args.x b.read-body.result b.read-body.ensures c.if1.true
 
 same-length-5 : tie.Need-same-length-5
 same-length-5 c = search rules
@@ -41,7 +41,7 @@ returns-2 : tie.Need-returns-2
 returns-2 c =
     let b = c.before.before.before.before.before.before.before.before.before.before in
     let s = b.before.before.before.before.before.before.before.before.before.before in
-    good-body s.args.text.now _ _ _ _ s.args.x b.read-body.result b.read-body.ensures c.if1.false
+    good_body s.args.text.now _ _ _ _ s.args.x b.read-body.result b.read-body.ensures c.if1.false
 
 pub read-contours-spec : {M : Type 1} → statement M
 read-contours-spec =

@@ -1,11 +1,11 @@
 -- `sheet::read::read_sheet` meets its contract: a sheet that is too long, a bad heading, or a good one and what is behind it. Assumes nothing.
 use borrow.Author.Rules.{rules}
-use Rattle.sheet.specs.Texts.{long-read, bad-heading, good-heading, body-ready}
+use Rattle.sheet.specs.Texts.{long_read, bad_heading, good_heading, body_ready}
 use Rattle.sheet.proofs.read.read_sheet.Statement.{statement}
 use Rattle.sheet.proofs.read.read_sheet.Tie as tie
 
 returns : tie.Need-returns
-returns c = let s = c.before.before.before.before.before.before in long-read s.args.text.now _ _ _ _ c.if1.true
+returns c = let s = c.before.before.before.before.before.before in long_read s.args.text.now _ _ _ _ c.if1.true
 
 read-heading-requires : tie.Need-read-heading-requires
 read-heading-requires c κs = search rules
@@ -21,14 +21,14 @@ read-contours-requires c κs =
     let x = c.before.before.before.before.before in
     let h = x.before.before in
     let s = h.before.before.before.before.before.before.before in
-    body-ready s.args.text.now h.read-heading.result x.x.given.0.0 x.x.given.1 h.read-heading.ensures.1 h.before.if1.false s.requires
+    body_ready s.args.text.now h.read-heading.result x.x.given.0.0 x.x.given.1 h.read-heading.ensures.1 h.before.if1.false s.requires
 
 returns-2 : tie.Need-returns-2
 returns-2 c =
     let x = c.before in
     let h = x.before.before in
     let s = h.before.before.before.before.before.before.before in
-    bad-heading s.args.text.now _ _ _ _ h.before.if1.false h.read-heading.result h.read-heading.ensures.0 h.read-heading.ensures.1
+    bad_heading s.args.text.now _ _ _ _ h.before.if1.false h.read-heading.result h.read-heading.ensures.0 h.read-heading.ensures.1
     x.n.given.0.0 x.n.given.0.1.0 x.n.given.1
 
 same_length : tie.Need-same-length
@@ -49,7 +49,7 @@ returns-3 c =
     let x = b.before.before.before.before.before.before in
     let h = x.before.before in
     let s = h.before.before.before.before.before.before.before in
-    good-heading s.args.text.now _ _ _ _ h.before.if1.false h.read-heading.result h.read-heading.ensures.0 h.read-heading.ensures.1
+    good_heading s.args.text.now _ _ _ _ h.before.if1.false h.read-heading.result h.read-heading.ensures.0 h.read-heading.ensures.1
     x.x.given.0.0 b.read-contours.result x.x.given.1 b.read-contours.ensures
 
 pub read-sheet-spec : {M : Type 1} → statement M

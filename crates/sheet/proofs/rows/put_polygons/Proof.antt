@@ -6,19 +6,19 @@ use native.Mathlib.Nat.{add-sub_cancel_left}
 use native.Mathlib.Omega.{arith}
 use lib.ListN.{length, get_or}
 use Rattle.mem.specs.Slice.{view}
-use Rattle.mem.specs.Loops.{block-fits}
-use Rattle.lines.specs.Pieces.{Pieces, pieces_none, pieces_room, pieces_more, pieces-all}
-use Rattle.lines.specs.Printing.{printed-as}
+use Rattle.mem.specs.Loops.{block_fits}
+use Rattle.lines.specs.Pieces.{Pieces, pieces_none, pieces_room, pieces_more, pieces_all}
+use Rattle.lines.specs.Printing.{printed_as}
 use Rattle.stored.specs.Counts.{count_most}
-use Rattle.sheet.specs.Rows.{polygonText, polygonRows}
-use Rattle.sheet.proofs.RowLoops.{polygonRow, polygons-over, row-printed}
+use Rattle.sheet.specs.Rows.{polygon_text, polygon_rows}
+use Rattle.sheet.proofs.RowLoops.{polygon_row, polygons_over, row_printed}
 use borrow.Author.Rules.{rules}
 use Rattle.sheet.proofs.rows.put_polygons.Statement.{statement}
 use Rattle.sheet.proofs.rows.put_polygons.Tie as tie
 
 abbrev invariant-loop : tie.invariant-loop
 invariant-loop out₀ at nvp n polygons neighbours regions codes to₀ i₀ out to i =
-    Pieces (polygonRow nvp polygons neighbours regions codes) n (polygonRows nvp n polygons neighbours regions codes) out₀ at out to i
+    Pieces (polygon_row nvp polygons neighbours regions codes) n (polygon_rows nvp n polygons neighbours regions codes) out₀ at out to i
 
 abbrev decreases-loop : tie.decreases-loop
 decreases-loop out₀ at nvp n polygons neighbours regions codes to₀ i₀ out to i = n - i
@@ -28,10 +28,10 @@ start c = c.before.before.before.before.before.before.before
 
 -- the words of polygon i, and its links
 words : (c : tie.In-loop invariant-loop decreases-loop) → c.before.loop.i * (start c).args.nvp + (start c).args.nvp ≤ length (start c).args.polygons.now
-words c = block-fits c.before.loop.i (start c).args.n (start c).args.nvp _ c.loop-test.true (start c).requires.polygons
+words c = block_fits c.before.loop.i (start c).args.n (start c).args.nvp _ c.loop-test.true (start c).requires.polygons
 
 links : (c : tie.In-loop invariant-loop decreases-loop) → c.before.loop.i * (start c).args.nvp + (start c).args.nvp ≤ length (start c).args.neighbours.now
-links c = block-fits c.before.loop.i (start c).args.n (start c).args.nvp _ c.loop-test.true (start c).requires.links
+links c = block_fits c.before.loop.i (start c).args.n (start c).args.nvp _ c.loop-test.true (start c).requires.links
 
 -- its corners are among its words
 few : (c : tie.After-count-corners invariant-loop decreases-loop) → c.count-corners.result ≤ (start c.before.before).args.nvp
@@ -46,20 +46,20 @@ lent : (c : tie.After-count-corners invariant-loop decreases-loop) →
     let i = c.before.before.before.loop.i in
     let from = i * s.args.nvp in
     let j = from + c.count-corners.result - from in
-    polygonText (get_or s.args.regions.now i 0) (get_or s.args.codes.now i 0) (view s.args.polygons.now from j) (view s.args.neighbours.now from j)
-    ≡ polygonRow s.args.nvp s.args.polygons.now s.args.neighbours.now s.args.regions.now s.args.codes.now i
+    polygon_text (get_or s.args.regions.now i 0) (get_or s.args.codes.now i 0) (view s.args.polygons.now from j) (view s.args.neighbours.now from j)
+    ≡ polygon_row s.args.nvp s.args.polygons.now s.args.neighbours.now s.args.regions.now s.args.codes.now i
 lent c =
     let s = start c.before.before in
     let i = c.before.before.before.loop.i in
     let from = i * s.args.nvp in
-    row-printed s.args.nvp s.args.polygons.now s.args.neighbours.now s.args.regions.now s.args.codes.now i _ c.count-corners.result _
+    row_printed s.args.nvp s.args.polygons.now s.args.neighbours.now s.args.regions.now s.args.codes.now i _ c.count-corners.result _
     (add-sub_cancel_left from s.args.nvp) (add-sub_cancel_left from c.count-corners.result) (words c.before.before) c.count-corners.ensures
 
 loop-holds : tie.Need-loop-init invariant-loop decreases-loop
 loop-holds c =
     let s = c.before.before.before.before.before in
     pieces_none _ _
-    (polygons-over s.args.nvp s.args.n s.args.polygons.now s.args.neighbours.now s.args.regions.now s.args.codes.now) s.requires.room
+    (polygons_over s.args.nvp s.args.n s.args.polygons.now s.args.neighbours.now s.args.regions.now s.args.codes.now) s.requires.room
 
 mul-from : tie.Need-overflow-mul-from invariant-loop decreases-loop
 mul-from c = omega (arith, words c)
@@ -131,13 +131,13 @@ loop-less : tie.Need-loop-smaller invariant-loop decreases-loop
 loop-less c = search rules
 
 loop-again : tie.Need-loop-preserved invariant-loop decreases-loop
-loop-again c = pieces_more c.before.before.before.before.before.before.before.before.before.before.before.loop.invariant c.before.before.before.before.before.before.before.before.before.before.loop-test.true (printed-as c.before.before.put-polygon.ensures (lent c.before.before.before.before.before.before.before.before))
+loop-again c = pieces_more c.before.before.before.before.before.before.before.before.before.before.before.loop.invariant c.before.before.before.before.before.before.before.before.before.before.loop-test.true (printed_as c.before.before.put-polygon.ensures (lent c.before.before.before.before.before.before.before.before))
 
 same_length : tie.Need-same-length invariant-loop decreases-loop
 same_length c = search rules
 
 returns : tie.Need-returns invariant-loop decreases-loop
-returns c = pieces-all c.before.loop.invariant c.loop-test.false
+returns c = pieces_all c.before.loop.invariant c.loop-test.false
 
 pub put-polygons-spec : {M : Type 1} → statement M
 put-polygons-spec =

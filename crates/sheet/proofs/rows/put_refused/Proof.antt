@@ -5,22 +5,22 @@ use Prim.Native.Nat.{ℕ}
 use native.Mathlib.Omega.{arith}
 use lib.ListN.{drop}
 use Rattle.rules.specs.Lines.{ascii}
-use Rattle.rules.specs.Sheet.{refusedName, refusedText}
-use Rattle.lines.specs.Pieces.{Going, going-begin, going-room, going_more, going-place, going-byte, going_end}
-use Rattle.lines.specs.Printing.{printed-same-length}
-use Rattle.sheet.proofs.LineTexts.{refusedTexts, refused-texts}
+use Rattle.rules.specs.Sheet.{refused_name, refused_text}
+use Rattle.lines.specs.Pieces.{Going, going_begin, going_room, going_more, going_place, going_byte, going_end}
+use Rattle.lines.specs.Printing.{printed_same_length}
+use Rattle.sheet.proofs.LineTexts.{refused_texts, refused_texts_lem}
 use Rattle.sheet.proofs.rows.put_refused.Statement.{statement}
 use Rattle.sheet.proofs.rows.put_refused.Tie as tie
 
 -- i texts are printed
 abbrev Done : tie.Start → ℕ → List ℕ → ℕ → Type 0
-Done s i w to = Going (refusedText s.args.number s.args.line) s.args.out.now 0 (drop i (refusedTexts s.args.number s.args.line)) w to
+Done s i w to = Going (refused_text s.args.number s.args.line) s.args.out.now 0 (drop i (refused_texts s.args.number s.args.line)) w to
 
 begun : (s : tie.Start) → Done s 0 s.args.out.now 0
-begun s = going-begin _ _ _ (refused-texts s.args.number s.args.line) s.requires
+begun s = going_begin _ _ _ (refused_texts_lem s.args.number s.args.line) s.requires
 
 named : (c : tie.After-put-text) → Done c.before.before.before.before 1 c.put-text.new.0 c.put-text.result
-unfolding refusedName ascii
+unfolding refused_name ascii
 named c = going_more (begun c.before.before.before.before) c.put-text.ensures
 
 numbered : (c : tie.After-put-cell) → Done c.before.before.before.before.before.before.before.before 2 c.put-cell.new.0 c.put-cell.result
@@ -33,26 +33,26 @@ slice-aggregate-put-text : tie.Need-slice-aggregate-put-text
 slice-aggregate-put-text c = refl
 
 put-text-requires : tie.Need-put-text-requires
-unfolding refusedName ascii
-put-text-requires c κs = going-room (begun c.before.before.before)
+unfolding refused_name ascii
+put-text-requires c κs = going_room (begun c.before.before.before)
 
 put-cell-requires : tie.Need-put-cell-requires
-put-cell-requires c κs = going-room (named c.before.before.before)
+put-cell-requires c κs = going_room (named c.before.before.before)
 
 put-cell-requires-2 : tie.Need-put-cell-requires-2
-put-cell-requires-2 c κs = going-room (numbered c.before.before.before)
+put-cell-requires-2 c κs = going_room (numbered c.before.before.before)
 
 slice-write-out : tie.Need-slice-write-out
-slice-write-out c = going-place (lined c.before.before)
+slice-write-out c = going_place (lined c.before.before)
 
 add-result : tie.Need-overflow-add-result
-add-result c = omega (arith, going-place (lined c.before.before))
+add-result c = omega (arith, going_place (lined c.before.before))
 
 returns : tie.Need-returns
-returns c = going_end (going-byte (lined c.before.before))
+returns c = going_end (going_byte (lined c.before.before))
 
 same_length : tie.Need-same-length
-same_length c = printed-same-length (returns c)
+same_length c = printed_same_length (returns c)
 
 pub put-refused-spec : {M : Type 1} → statement M
 put-refused-spec =

@@ -1,20 +1,20 @@
 -- `sheet::text::mesh_sheet` meets its contract: a refusal of the reading, or the answer to the job of the lists that were read. Assumes nothing.
 use mathlib.Core.Path.{sym}
 use native.Mathlib.Omega.{arith}
-use Rattle.rules.specs.Sheet.{readSheet, outcomeOf, builtText, text_of}
-use Rattle.lines.specs.Printing.{printed-as}
-use Rattle.sheet.specs.Answering.{jobText}
+use Rattle.rules.specs.Sheet.{read_sheet, outcome_of, built_text, text_of}
+use Rattle.lines.specs.Printing.{printed_as}
+use Rattle.sheet.specs.Answering.{job_text}
 use Rattle.sheet.specs.Parts.{whole_part, whole_numbers}
-use Rattle.sheet.specs.Reading.{readBytes, TakenAs}
-use Rattle.sheet.specs.Room.{refused-room, printed-counts}
-use Rattle.sheet.specs.Texts.{bad-as, bad-text, taken_as, taken-text, whole-answer}
+use Rattle.sheet.specs.Reading.{read_bytes, TakenAs}
+use Rattle.sheet.specs.Room.{refused_room, printed_counts}
+use Rattle.sheet.specs.Texts.{bad_as, bad_text, taken_as, taken_text, whole_answer}
 use borrow.Author.Rules.{rules}
 use Rattle.sheet.proofs.text.mesh_sheet.Statement.{statement}
 use Rattle.sheet.proofs.text.mesh_sheet.Tie as tie
 
 -- a sheet was read
 read : (c : tie.After-x) → let r = c.before.before.before.before.before.before in let s = r.before.before.before.before.before.before in
-    TakenAs (readBytes s.args.text.now) c.x.given.0.0 c.x.given.0.1.0 c.x.given.0.1.1.0
+    TakenAs (read_bytes s.args.text.now) c.x.given.0.0 c.x.given.0.1.0 c.x.given.0.1.1.0
     r.read-sheet.new.1.0 r.read-sheet.new.1.1.0 r.read-sheet.new.1.1.1.0 r.read-sheet.new.1.1.1.1.0
 read c = let r = c.before.before.before.before.before.before in taken_as r.read-sheet.ensures c.x.given.1
 
@@ -39,7 +39,7 @@ enum-known-n c = search rules
 put-refused-requires : tie.Need-put-refused-requires
 put-refused-requires c κs =
     let n = c.before.before in
-    omega (arith, refused-room n.n.given.0.0 n.n.given.0.1.0, c.put-refused-arg.given.0.1)
+    omega (arith, refused_room n.n.given.0.0 n.n.given.0.1.0, c.put-refused-arg.given.0.1)
 
 enum-known-x : tie.Need-enum-known-x
 enum-known-x c = search rules
@@ -94,17 +94,17 @@ returns c =
     let n = c.before.before.before in
     let r = n.before.before.before.before.before.before in
     let s = r.before.before.before.before.before.before in
-    whole-answer c.before.put-refused-arg.given.0.1 (refused-room n.n.given.0.0 n.n.given.0.1.0) c.Put-refused.ensures
-    (bad-text readSheet (λ t. builtText t (outcomeOf t.job)) s.args.text.now (bad-as r.read-sheet.ensures n.n.given.1))
+    whole_answer c.before.put-refused-arg.given.0.1 (refused_room n.n.given.0.0 n.n.given.0.1.0) c.Put-refused.ensures
+    (bad_text read_sheet (λ t. built_text t (outcome_of t.job)) s.args.text.now (bad_as r.read-sheet.ensures n.n.given.1))
 
 returns-2 : tie.Need-returns-2
-unfolding text_of jobText
+unfolding text_of job_text
 returns-2 c =
     let x = c.before.before.before.before.before.before.before in
     let r = x.before.before.before.before.before.before in
     let s = r.before.before.before.before.before.before in
-    let p = printed-as c.answer-job.ensures.0 (sym (taken-text readSheet (λ t. builtText t (outcomeOf t.job)) s.args.text.now (read x).same)) in
-    (p, printed-counts p c.answer-job.ensures.1 c.before.answer-job-arg.given.0.1)
+    let p = printed_as c.answer-job.ensures.0 (sym (taken_text read_sheet (λ t. built_text t (outcome_of t.job)) s.args.text.now (read x).same)) in
+    (p, printed_counts p c.answer-job.ensures.1 c.before.answer-job-arg.given.0.1)
 
 pub mesh-sheet-spec : {M : Type 1} → statement M
 mesh-sheet-spec =

@@ -2,7 +2,7 @@
 use mathlib.Core.List.{[], ◌∷◌}
 use native.Mathlib.Omega.{arith}
 use lib.ListN.{length-set}
-use Rattle.mem.specs.Slice.{setEach, stored-each}
+use Rattle.mem.specs.Slice.{set_each, stored_each}
 use Rattle.rules.specs.Stl.{little}
 use borrow.Author.Rules.{rules}
 use Rattle.stl.proofs.bytes.put_u32.Statement.{statement}
@@ -45,8 +45,8 @@ same_length : tie.Need-same-length
 same_length c = search rules
 
 returns : tie.Need-returns
-unfolding setEach little
-returns c = stored-each _ _ _ (_ ∷ _ ∷ _ ∷ [])
+unfolding set_each little
+returns c = stored_each _ _ _ (_ ∷ _ ∷ _ ∷ [])
 
 pub put-u32-spec : {M : Type 1} → statement M
 put-u32-spec =

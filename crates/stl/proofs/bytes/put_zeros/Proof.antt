@@ -2,7 +2,7 @@
 use mathlib.Core.Path.{refl, ap, ◌∙◌}
 use Prim.Native.Nat.{◌-◌}
 use Rattle.mem.specs.Slice.{splice}
-use Rattle.mem.specs.Tab.{Filled, filled_none, filled_more, filled-all, tab-const}
+use Rattle.mem.specs.Tab.{Filled, filled_none, filled_more, filled_all, tab_const}
 use borrow.Author.Rules.{rules}
 use Rattle.stl.proofs.bytes.put_zeros.Statement.{statement}
 use Rattle.stl.proofs.bytes.put_zeros.Tie as tie
@@ -37,7 +37,7 @@ same_length c = search rules
 returns : tie.Need-returns invariant-loop decreases-loop
 returns c =
     let s = c.before.before in
-    filled-all c.before.loop.invariant c.loop-test.false ∙ ap (splice s.args.out.now s.args.at) (tab-const s.args.n 0)
+    filled_all c.before.loop.invariant c.loop-test.false ∙ ap (splice s.args.out.now s.args.at) (tab_const s.args.n 0)
 
 pub put-zeros-spec : {M : Type 1} → statement M
 put-zeros-spec =

@@ -2,15 +2,15 @@
 use mathlib.Core.Path.{refl, ap, ◌∙◌}
 use Prim.Native.Nat.{◌+◌, ◌-◌, ◌*◌}
 use Rattle.mem.specs.Slice.{view, splice}
-use Rattle.mem.specs.Tab.{Filled, filled_none, filled_more, filled-all}
-use Rattle.rules.specs.Stl.{fromLittle}
-use Rattle.laws.specs.StlWords.{facet-in}
+use Rattle.mem.specs.Tab.{Filled, filled_none, filled_more, filled_all}
+use Rattle.rules.specs.Stl.{from_little}
+use Rattle.laws.specs.StlWords.{facet_in_lem}
 use borrow.Author.Rules.{rules}
 use Rattle.stl.proofs.facets.get_facet.Statement.{statement}
 use Rattle.stl.proofs.facets.get_facet.Tie as tie
 
 abbrev invariant-loop : tie.invariant-loop
-invariant-loop file at words₀ to i₀ words i = Filled words₀ to (λ k. fromLittle (view file (at + 12 + k * 4) 4)) 9 words i
+invariant-loop file at words₀ to i₀ words i = Filled words₀ to (λ k. from_little (view file (at + 12 + k * 4) 4)) 9 words i
 
 abbrev decreases-loop : tie.decreases-loop
 decreases-loop file at words₀ to i₀ words i = 9 - i
@@ -54,7 +54,7 @@ same_length c = search rules
 returns : tie.Need-returns invariant-loop decreases-loop
 returns c =
     let s = c.before.before.before.before in
-    filled-all c.before.loop.invariant c.loop-test.false ∙ ap (splice s.args.words.now s.args.to) (facet-in s.args.file.now s.args.at)
+    filled_all c.before.loop.invariant c.loop-test.false ∙ ap (splice s.args.words.now s.args.to) (facet_in_lem s.args.file.now s.args.at)
 
 pub get-facet-spec : {M : Type 1} → statement M
 get-facet-spec =

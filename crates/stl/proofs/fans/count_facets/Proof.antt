@@ -5,9 +5,9 @@ use Prim.Native.Nat.{◌+◌, ◌-◌, ◌*◌, ◌≤◌}
 use native.Mathlib.Nat.{add-sub_cancel_left}
 use native.Mathlib.Omega.{arith}
 use lib.ListN.{length}
-use Rattle.mem.specs.Loops.{block-fits}
+use Rattle.mem.specs.Loops.{block_fits}
 use Rattle.stl.proofs.Fanning.{row_at}
-use Rattle.stl.proofs.Counted.{Counted, counted_none, counted-more, counted-all}
+use Rattle.stl.proofs.Counted.{Counted, counted_none, counted_more, counted_all}
 use borrow.Author.Rules.{rules}
 use Rattle.stl.proofs.fans.count_facets.Statement.{statement}
 use Rattle.stl.proofs.fans.count_facets.Tie as tie
@@ -23,7 +23,7 @@ abbrev start : tie.In-loop invariant-loop decreases-loop → tie.Start invariant
 start c = c.before.before.before
 
 words : (c : tie.In-loop invariant-loop decreases-loop) → c.before.loop.i * (start c).args.nvp + (start c).args.nvp ≤ length (start c).args.polygons.now
-words c = block-fits c.before.loop.i (start c).args.np (start c).args.nvp _ c.loop-test.true (start c).requires.words
+words c = block_fits c.before.loop.i (start c).args.np (start c).args.nvp _ c.loop-test.true (start c).requires.words
 
 -- its corners, of the words that are lent
 abbrev turn : tie.After-count-corners invariant-loop decreases-loop → tie.In-loop invariant-loop decreases-loop
@@ -45,7 +45,7 @@ again : (c : tie.After-count-corners invariant-loop decreases-loop) →
     Counted s.args.nvp s.args.np s.args.polygons.now (l.n + (c.count-corners.result - 2)) (l.i + 1)
 again c =
     let s = start (turn c) in
-    counted-more s.args.nvp s.args.np s.args.polygons.now (turn c).before.loop.invariant s.pre (turn c).loop-test.true (corners c)
+    counted_more s.args.nvp s.args.np s.args.polygons.now (turn c).before.loop.invariant s.pre (turn c).loop-test.true (corners c)
 
 loop-holds : tie.Need-loop-init invariant-loop decreases-loop
 loop-holds c = counted_none _ _ _
@@ -89,7 +89,7 @@ loop-again c = again c
 returns : tie.Need-returns invariant-loop decreases-loop
 returns c =
     let s = c.before.before.before in
-    counted-all s.args.nvp s.args.np s.args.polygons.now c.before.loop.invariant c.loop-test.false
+    counted_all s.args.nvp s.args.np s.args.polygons.now c.before.loop.invariant c.loop-test.false
 
 pub count-facets-spec : {M : Type 1} → statement M
 count-facets-spec =

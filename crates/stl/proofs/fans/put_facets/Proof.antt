@@ -5,19 +5,19 @@ use native.Mathlib.Nat.{add-sub_cancel_left}
 use native.Mathlib.Omega.{arith}
 use lib.ListN.{length}
 use Rattle.mem.specs.Slice.{view}
-use Rattle.mem.specs.Loops.{block-fits}
-use Rattle.lines.specs.Pieces.{Pieces, pieces_none, pieces_room, pieces_more, pieces-all}
-use Rattle.lines.specs.Printing.{printed-as}
-use Rattle.stored.specs.Counts.{count_most, corners-there}
-use Rattle.stl.specs.Steps.{fanBytes, facetsBytes}
-use Rattle.stl.proofs.Fanning.{row_at, facets-over, fan-ready}
+use Rattle.mem.specs.Loops.{block_fits}
+use Rattle.lines.specs.Pieces.{Pieces, pieces_none, pieces_room, pieces_more, pieces_all}
+use Rattle.lines.specs.Printing.{printed_as}
+use Rattle.stored.specs.Counts.{count_most, corners_there}
+use Rattle.stl.specs.Steps.{fan_bytes, facets_bytes}
+use Rattle.stl.proofs.Fanning.{row_at, facets_over, fan_ready}
 use borrow.Author.Rules.{rules}
 use Rattle.stl.proofs.fans.put_facets.Statement.{statement}
 use Rattle.stl.proofs.fans.put_facets.Tie as tie
 
 abbrev invariant-loop : tie.invariant-loop
 invariant-loop out₀ at size height nvp np vertices polygons to₀ i₀ out to i =
-    Pieces (λ j. fanBytes size height vertices (row_at nvp polygons j)) np (facetsBytes size height nvp np vertices polygons) out₀ at out to i
+    Pieces (λ j. fan_bytes size height vertices (row_at nvp polygons j)) np (facets_bytes size height nvp np vertices polygons) out₀ at out to i
 
 abbrev decreases-loop : tie.decreases-loop
 decreases-loop out₀ at size height nvp np vertices polygons to₀ i₀ out to i = np - i
@@ -27,7 +27,7 @@ abbrev start : tie.In-loop invariant-loop decreases-loop → tie.Start invariant
 start c = c.before.before.before.before.before
 
 words : (c : tie.In-loop invariant-loop decreases-loop) → c.before.loop.i * (start c).args.nvp + (start c).args.nvp ≤ length (start c).args.polygons.now
-words c = block-fits c.before.loop.i (start c).args.np (start c).args.nvp _ c.loop-test.true (start c).requires.count.words
+words c = block_fits c.before.loop.i (start c).args.np (start c).args.nvp _ c.loop-test.true (start c).requires.count.words
 
 -- its corners are among its words
 abbrev turn : tie.After-count-corners invariant-loop decreases-loop → tie.In-loop invariant-loop decreases-loop
@@ -48,14 +48,14 @@ lent c =
     let a = (start (turn c)).args in
     let from = (turn c).before.loop.i * a.nvp in
     let n = c.count-corners.result in
-    corners-there a.polygons.now from a.nvp _ n (add-sub_cancel_left from a.nvp) (words (turn c)) c.count-corners.ensures _
+    corners_there a.polygons.now from a.nvp _ n (add-sub_cancel_left from a.nvp) (words (turn c)) c.count-corners.ensures _
     (add-sub_cancel_left from n)
 
 loop-holds : tie.Need-loop-init invariant-loop decreases-loop
 loop-holds c =
     let s = c.before.before.before in
     let a = s.args in
-    pieces_none _ _ (facets-over a.nvp a.np a.polygons.now a.size a.height a.vertices.now) s.requires.room
+    pieces_none _ _ (facets_over a.nvp a.np a.polygons.now a.size a.height a.vertices.now) s.requires.room
 
 mul-from : tie.Need-overflow-mul-from invariant-loop decreases-loop
 mul-from c = omega (arith, words c)
@@ -96,7 +96,7 @@ part-put-fan-end c = omega (arith, words (turn c.before), few c.before)
 put-fan-requires : tie.Need-put-fan-requires invariant-loop decreases-loop
 put-fan-requires c κs =
     let t = turn c.before.before in
-    fan-ready (start t).pre t.loop-test.taken (lent c.before.before) (pieces_room t.before.loop.inv t.loop-test.taken)
+    fan_ready (start t).pre t.loop-test.taken (lent c.before.before) (pieces_room t.before.loop.inv t.loop-test.taken)
 
 add-i : tie.Need-overflow-add-i invariant-loop decreases-loop
 add-i c = search rules
@@ -110,13 +110,13 @@ loop-again c =
     let t = turn n in
     let a = (start t).args in
     pieces_more t.before.loop.inv t.loop-test.taken
-    (printed-as c.before.before.put-fan.ensures (ap (fanBytes a.size a.height a.vertices.now) (lent n)))
+    (printed_as c.before.before.put-fan.ensures (ap (fan_bytes a.size a.height a.vertices.now) (lent n)))
 
 same_length : tie.Need-same-length invariant-loop decreases-loop
 same_length c = search rules
 
 returns : tie.Need-returns invariant-loop decreases-loop
-returns c = pieces-all c.before.loop.invariant c.loop-test.false
+returns c = pieces_all c.before.loop.invariant c.loop-test.false
 
 pub put-facets-spec : {M : Type 1} → statement M
 put-facets-spec =

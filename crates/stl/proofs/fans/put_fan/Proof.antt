@@ -3,8 +3,8 @@
 use Prim.Native.Nat.{ℕ, ◌+◌, ◌-◌, ◌*◌, ◌≤◌, ◌<◌}
 use native.Mathlib.Omega.{arith}
 use lib.ListN.{length, get_or}
-use Rattle.rules.specs.Checks.{vertexStride}
-use Rattle.stl.proofs.Fanning.{Fan, fan-none, corner-there, fan-room, fan-more, fan-all}
+use Rattle.rules.specs.Checks.{vertex_stride}
+use Rattle.stl.proofs.Fanning.{Fan, fan_none, corner_there, fan_room, fan_more, fan_all}
 use borrow.Author.Rules.{rules}
 use Rattle.stl.proofs.fans.put_fan.Statement.{statement}
 use Rattle.stl.proofs.fans.put_fan.Tie as tie
@@ -24,11 +24,11 @@ abbrev start : tie.In-loop invariant-loop decreases-loop → tie.Start invariant
 start c = given c.before.before
 
 there : (c : tie.In-loop invariant-loop decreases-loop) (k : ℕ) → k < length (start c).args.corners.now
-    → get_or (start c).args.corners.now k 0 * vertexStride + 2 < length (start c).args.vertices.now
-there c k h = corner-there _ _ _ _ (start c).requires k h
+    → get_or (start c).args.corners.now k 0 * vertex_stride + 2 < length (start c).args.vertices.now
+there c k h = corner_there _ _ _ _ (start c).requires k h
 
 room : (c : tie.In-loop invariant-loop decreases-loop) → c.before.loop.to + 50 ≤ length c.before.loop.out
-room c = fan-room _ _ _ _ (start c).requires c.before.loop.invariant c.loop-test.true
+room c = fan_room _ _ _ _ (start c).requires c.before.loop.invariant c.loop-test.true
 
 -- three corners are read, and then their facet is written
 abbrev turn : tie.After-vertex-at3 invariant-loop decreases-loop → tie.In-loop invariant-loop decreases-loop
@@ -41,10 +41,10 @@ shared-slice-read-vertex-at : tie.Need-shared-slice-read-vertex-at invariant-loo
 shared-slice-read-vertex-at c = search rules
 
 vertex-at-requires : tie.Need-vertex-at-requires invariant-loop decreases-loop
-vertex-at-requires c κs = let s = c.before.before.before.before in corner-there _ _ _ _ s.requires 0 (omega (arith, s.requires.long))
+vertex-at-requires c κs = let s = c.before.before.before.before in corner_there _ _ _ _ s.requires 0 (omega (arith, s.requires.long))
 
 loop-holds : tie.Need-loop-init invariant-loop decreases-loop
-loop-holds c = fan-none _ _ _ _ (given c).requires
+loop-holds c = fan_none _ _ _ _ (given c).requires
 
 sub-vertex-at : tie.Need-overflow-sub-vertex-at invariant-loop decreases-loop
 sub-vertex-at c = search rules
@@ -68,7 +68,7 @@ vertex-at-requires-3 : tie.Need-vertex-at-requires-3 invariant-loop decreases-lo
 vertex-at-requires-3 c κs = let t = c.before.before.before in there t _ t.loop-test.true
 
 put-facet-requires : tie.Need-put-facet-requires invariant-loop decreases-loop
-put-facet-requires c κs = let t = turn c.before in ((start t).pre.size-length, ((start t).pre.height-length, room t))
+put-facet-requires c κs = let t = turn c.before in ((start t).pre.size_length, ((start t).pre.height_length, room t))
 
 add-to : tie.Need-overflow-add-to invariant-loop decreases-loop
 add-to c = omega (arith, room (turn (read c)))
@@ -83,14 +83,14 @@ loop-again : tie.Need-loop-preserved invariant-loop decreases-loop
 loop-again c =
     let r = read c in
     let t = turn r in
-    fan-more _ _ _ _ (start t).pre t.before.loop.inv t.loop-test.taken t.before.before.vertex-at.ensures
+    fan_more _ _ _ _ (start t).pre t.before.loop.inv t.loop-test.taken t.before.before.vertex-at.ensures
     r.before.before.vertex-at2.ensures r.vertex-at3.ensures c.before.before.put-facet.ensures
 
 same_length : tie.Need-same-length invariant-loop decreases-loop
 same_length c = search rules
 
 returns : tie.Need-returns invariant-loop decreases-loop
-returns c = fan-all _ _ _ _ (given c.before.before).pre c.before.loop.invariant c.loop-test.false
+returns c = fan_all _ _ _ _ (given c.before.before).pre c.before.loop.invariant c.loop-test.false
 
 pub put-fan-spec : {M : Type 1} → statement M
 put-fan-spec =

@@ -1,5 +1,5 @@
 -- `stl::header::put_header` meets its contract: the count stands behind the zeros. Assumes nothing.
-use Rattle.laws.specs.StlWords.{header-written}
+use Rattle.laws.specs.StlWords.{header_written}
 use borrow.Author.Rules.{rules}
 use Rattle.stl.proofs.header.put_header.Statement.{statement}
 use Rattle.stl.proofs.header.put_header.Tie as tie
@@ -17,7 +17,7 @@ returns : tie.Need-returns
 returns c =
     let z = c.before.before.before.before.before.before in
     let a = z.before.before.before.args in
-    header-written a.out.now a.n z.put-zeros.ensures c.before.before.put-u32.ensures
+    header_written a.out.now a.n z.put-zeros.ensures c.before.before.put-u32.ensures
 
 pub put-header-spec : {M : Type 1} → statement M
 put-header-spec = tie.close (tie.spec put-zeros-requires put-u32-requires same_length returns)

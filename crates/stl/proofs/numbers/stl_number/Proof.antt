@@ -1,6 +1,6 @@
 -- `stl::numbers::stl_number` meets its contract: each arm is the rules' number with its variant known. Assumes nothing.
 use mathlib.Core.Path.{refl}
-use Rattle.rules.specs.StlCall.{stlNumber}
+use Rattle.rules.specs.StlCall.{stl_number}
 use borrow.Author.Rules.{rules}
 use Rattle.stl.proofs.numbers.stl_number.Statement.{statement}
 use Rattle.stl.proofs.numbers.stl_number.Tie as tie
@@ -21,19 +21,19 @@ enum-told-3 : tie.Need-enum-told-3
 enum-told-3 c = search rules
 
 returns : tie.Need-returns
-unfolding stlNumber
+unfolding stl_number
 returns c = rw c.enum_told.given.1 refl
 
 returns-2 : tie.Need-returns-2
-unfolding stlNumber
+unfolding stl_number
 returns-2 c = rw c.before.before.reply.given.1 c.fault-number.ensures
 
 returns-3 : tie.Need-returns-3
-unfolding stlNumber
+unfolding stl_number
 returns-3 c = rw c.enum-told2.given.1 refl
 
 returns-4 : tie.Need-returns-4
-unfolding stlNumber
+unfolding stl_number
 returns-4 c = rw c.enum-told3.given.1 refl
 
 pub stl-number-spec : {M : Type 1} → statement M

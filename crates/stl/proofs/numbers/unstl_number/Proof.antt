@@ -1,6 +1,6 @@
 -- `stl::numbers::unstl_number` meets its contract: each arm is the rules' number with its variant known. Assumes nothing.
 use mathlib.Core.Path.{refl}
-use Rattle.rules.specs.StlCall.{unstlNumber}
+use Rattle.rules.specs.StlCall.{unstl_number}
 use borrow.Author.Rules.{rules}
 use Rattle.stl.proofs.numbers.unstl_number.Statement.{statement}
 use Rattle.stl.proofs.numbers.unstl_number.Tie as tie
@@ -18,19 +18,19 @@ enum-told-4 : tie.Need-enum-told-4
 enum-told-4 c = search rules
 
 returns : tie.Need-returns
-unfolding unstlNumber
+unfolding unstl_number
 returns c = rw c.enum_told.given.1 refl
 
 returns-2 : tie.Need-returns-2
-unfolding unstlNumber
+unfolding unstl_number
 returns-2 c = rw c.enum-told2.given.1 refl
 
 returns-3 : tie.Need-returns-3
-unfolding unstlNumber
+unfolding unstl_number
 returns-3 c = rw c.enum-told3.given.1 refl
 
 returns-4 : tie.Need-returns-4
-unfolding unstlNumber
+unfolding unstl_number
 returns-4 c = rw c.enum-told4.given.1 refl
 
 pub unstl-number-spec : {M : Type 1} → statement M

@@ -1,5 +1,5 @@
 -- `stl::points::put_facet` meets its contract: a normal, three points and an attribute one behind the other are the bytes of the facet. Assumes nothing.
-use Rattle.laws.specs.StlWords.{facet-written}
+use Rattle.laws.specs.StlWords.{facet_written}
 use borrow.Author.Rules.{rules}
 use Rattle.stl.proofs.points.put_facet.Statement.{statement}
 use Rattle.stl.proofs.points.put_facet.Tie as tie
@@ -54,7 +54,7 @@ returns c =
     let p = first q in
     let z = normal p in
     let a = (start z).args in
-    facet-written a.size a.height a.a a.b a.c a.out.now a.at z.put-zeros.ensures p.put-point.ensures q.put-point2.ensures
+    facet_written a.size a.height a.a a.b a.c a.out.now a.at z.put-zeros.ensures p.put-point.ensures q.put-point2.ensures
     r.put-point3.ensures c.before.before.put-zeros2.ensures
 
 pub put-facet-spec : {M : Type 1} → statement M

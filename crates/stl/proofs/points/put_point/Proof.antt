@@ -1,6 +1,6 @@
 -- `stl::points::put_point` meets its contract: three numbers one behind the other are the bytes of the point. Assumes nothing.
 use Rattle.rules.specs.Stl.{coordinate, point_of}
-use Rattle.laws.specs.StlWords.{point-written}
+use Rattle.laws.specs.StlWords.{point_written}
 use borrow.Author.Rules.{rules}
 use Rattle.stl.proofs.points.put_point.Statement.{statement}
 use Rattle.stl.proofs.points.put_point.Tie as tie
@@ -36,7 +36,7 @@ returns c =
     let y = c.before.before.before.before.before.before in
     let x = first y in
     let a = (start x).args in
-    point-written a.out.now a.at (coordinate a.size a.v.x) (coordinate a.height a.v.y) (coordinate a.size a.v.z)
+    point_written a.out.now a.at (coordinate a.size a.v.x) (coordinate a.height a.v.y) (coordinate a.size a.v.z)
     x.put-f32.ensures y.put-f322.ensures c.before.before.put-f323.ensures
 
 pub put-point-spec : {M : Type 1} → statement M

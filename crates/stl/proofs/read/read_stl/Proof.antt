@@ -1,6 +1,6 @@
 -- `stl::read::read_stl` meets its contract: a wrong length, the first byte that is wrong, or else the facets decide. Assumes nothing.
 use mathlib.Core.Path.{sym, ◌∙◌}
-use Rattle.stl.proofs.Reading.{read_whole, read-bad-length, read-not-zero}
+use Rattle.stl.proofs.Reading.{read_whole, read_bad_length, read_not_zero}
 use borrow.Author.Rules.{rules}
 use Rattle.stl.proofs.read.read_stl.Statement.{statement}
 use Rattle.stl.proofs.read.read_stl.Tie as tie
@@ -24,7 +24,7 @@ returns : tie.Need-returns
 returns c =
     let f = c.before.before.before in
     let l = f.before in
-    read-not-zero _ _ l.before.right-length.ensures l.if1.true f.first-wrong.ensures c.before.i.given.1
+    read_not_zero _ _ l.before.right-length.ensures l.if1.true f.first-wrong.ensures c.before.i.given.1
 
 same_length : tie.Need-same-length
 same_length c = search rules
@@ -38,7 +38,7 @@ returns-2 c =
     read_whole _ _ l.before.right-length.ensures l.if1.true f.first-wrong.ensures t.enum_told.given.1 w.take-facets.ensures
 
 returns-3 : tie.Need-returns-3
-returns-3 c = read-bad-length _ _ c.before.right-length.ensures c.if1.false
+returns-3 c = read_bad_length _ _ c.before.right-length.ensures c.if1.false
 
 pub read-stl-spec : {M : Type 1} → statement M
 read-stl-spec =

@@ -1,8 +1,8 @@
 -- `stl::read::take_facets` meets its contract: the facets fit the words, or they don't. Assumes nothing.
 use mathlib.Core.Path.{◌≡◌}
 use native.Mathlib.Omega.{arith}
-use Rattle.rules.specs.Stl.{countIn}
-use Rattle.stl.proofs.Reading.{front-there, facets-there, points-short, points-taken}
+use Rattle.rules.specs.Stl.{count_in}
+use Rattle.stl.proofs.Reading.{front_there, facets_there, points_short, points_taken}
 use borrow.Author.Rules.{rules}
 use Rattle.stl.proofs.read.take_facets.Statement.{statement}
 use Rattle.stl.proofs.read.take_facets.Tie as tie
@@ -11,12 +11,12 @@ use Rattle.stl.proofs.read.take_facets.Tie as tie
 abbrev start : tie.After-get-u32 → tie.Start
 start c = c.before.before.before
 
-count : (c : tie.After-get-u32) → c.get-u32.result ≡ countIn (start c).args.file.now
-unfolding countIn
+count : (c : tie.After-get-u32) → c.get-u32.result ≡ count_in (start c).args.file.now
+unfolding count_in
 count c = c.get-u32.ensures
 
 get-u32-requires : tie.Need-get-u32-requires
-get-u32-requires c κs = omega (arith, front-there c.before.before.args.file.now c.before.before.requires)
+get-u32-requires c κs = omega (arith, front_there c.before.before.args.file.now c.before.before.requires)
 
 cast-n : tie.Need-overflow-cast-n
 cast-n c = search rules
@@ -25,13 +25,13 @@ mul-if1 : tie.Need-overflow-mul-if1
 mul-if1 c = search rules
 
 returns : tie.Need-returns
-returns c = points-short _ _ (count c.before) c.if1.true
+returns c = points_short _ _ (count c.before) c.if1.true
 
 get-facets-requires : tie.Need-get-facets-requires
 get-facets-requires c κs =
     let g = c.before.before in
     let n = count g in
-    (n, (omega (arith, n, facets-there (start g).args.file.now (start g).requires), omega (arith, c.before.if1.false)))
+    (n, (omega (arith, n, facets_there (start g).args.file.now (start g).requires), omega (arith, c.before.if1.false)))
 
 same_length : tie.Need-same-length
 same_length c = search rules
@@ -40,7 +40,7 @@ returns-2 : tie.Need-returns-2
 returns-2 c =
     let w = c.before.before in
     let l = w.before.before in
-    points-taken _ _ (count l.before) l.if1.false w.get-facets.ensures
+    points_taken _ _ (count l.before) l.if1.false w.get-facets.ensures
 
 pub take-facets-spec : {M : Type 1} → statement M
 take-facets-spec =

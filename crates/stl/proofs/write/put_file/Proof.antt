@@ -3,9 +3,9 @@ use mathlib.Core.Path.{◌∙◌, ap}
 use Prim.Native.Nat.{◌+◌, ◌*◌, ◌≤◌}
 use native.Mathlib.Omega.{arith}
 use lib.ListN.{length}
-use Rattle.mem.specs.Slice.{length-splice}
+use Rattle.mem.specs.Slice.{length_splice}
 use Rattle.stl.proofs.Counted.{count_small}
-use Rattle.stl.proofs.Writing.{file-short, facets-ready, file-put}
+use Rattle.stl.proofs.Writing.{file_short, facets_ready, file_put}
 use borrow.Author.Rules.{rules}
 use Rattle.stl.proofs.write.put_file.Statement.{statement}
 use Rattle.stl.proofs.write.put_file.Tie as tie
@@ -37,7 +37,7 @@ add-if1 : tie.Need-overflow-add-if1
 add-if1 c = omega (arith, small c)
 
 returns : tie.Need-returns
-returns c = file-short _ (start c.before).requires c.before.count-facets.ensures c.if1.true
+returns c = file_short _ (start c.before).requires c.before.count-facets.ensures c.if1.true
 
 cast-put-header : tie.Need-overflow-cast-put-header
 cast-put-header c = omega (arith, small c.before.before)
@@ -49,7 +49,7 @@ put-facets-requires : tie.Need-put-facets-requires
 put-facets-requires c κs =
     let h = c.before.before.before in
     let n = counted h in
-    facets-ready (start n).args.file.now (start n).pre n.count-facets.ensures (fits h) (ap length h.put-header.ensures ∙ length-splice _ _ _)
+    facets_ready (start n).args.file.now (start n).pre n.count-facets.ensures (fits h) (ap length h.put-header.ensures ∙ length_splice _ _ _)
 
 same_length : tie.Need-same-length
 same_length c = search rules
@@ -59,7 +59,7 @@ returns-2 c =
     let p = c.before.before in
     let h = p.before.before.before.before in
     let n = counted h in
-    file-put _ (start n).pre n.count-facets.ensures (fits h) h.put-header.ensures p.put-facets.ensures
+    file_put _ (start n).pre n.count-facets.ensures (fits h) h.put-header.ensures p.put-facets.ensures
 
 pub put-file-spec : {M : Type 1} → statement M
 put-file-spec =

@@ -1,7 +1,7 @@
 -- `stl::write::write_stl` meets its contract: a sound mesh goes on to 70 and 71, and a fault is the reply. Assumes nothing.
 use Rattle.rules.specs.Stl.{Scale}
-use Rattle.stl.specs.Steps.{scaleIn}
-use Rattle.stl.proofs.Writing.{mesh-sound, sound-written, broken-refused}
+use Rattle.stl.specs.Steps.{scale_in}
+use Rattle.stl.proofs.Writing.{mesh_sound, sound_written, broken_refused}
 use borrow.Author.Rules.{rules}
 use Rattle.stl.proofs.write.write_stl.Statement.{statement}
 use Rattle.stl.proofs.write.write_stl.Tie as tie
@@ -11,7 +11,7 @@ abbrev start : tie.After-soundness-of → tie.Start
 start c = c.before.before.before.before.before
 
 abbrev scale : tie.Start → Scale
-scale s = scaleIn s.args.inches s.args.size s.args.height
+scale s = scale_in s.args.inches s.args.size s.args.height
 
 soundness-of-requires : tie.Need-soundness-of-requires
 soundness-of-requires c κs = search rules
@@ -23,7 +23,7 @@ write-sound-requires : tie.Need-write-sound-requires
 write-sound-requires c κs =
     let f = c.before.before.before in
     let a = (start f).args in
-    mesh-sound a.nvp a.vertices.now a.polygons.now a.links.now f.soundness-of.ensures c.before.enum_told.given.1
+    mesh_sound a.nvp a.vertices.now a.polygons.now a.links.now f.soundness-of.ensures c.before.enum_told.given.1
 
 enum-known-sound : tie.Need-enum-known-sound
 enum-known-sound c = search rules
@@ -37,14 +37,14 @@ returns c =
     let t = w.before.before in
     let f = t.before.before in
     let a = (start f).args in
-    sound-written a.nvp a.vertices.now a.polygons.now a.links.now f.soundness-of.ensures (scale (start f)) a.file.now
+    sound_written a.nvp a.vertices.now a.polygons.now a.links.now f.soundness-of.ensures (scale (start f)) a.file.now
     t.enum_told.given.1 w.write-sound.ensures
 
 returns-2 : tie.Need-returns-2
 returns-2 c =
     let f = c.before.before.before in
     let a = (start f).args in
-    broken-refused a.nvp a.vertices.now a.polygons.now a.links.now f.soundness-of.ensures (scale (start f)) a.file.now
+    broken_refused a.nvp a.vertices.now a.polygons.now a.links.now f.soundness-of.ensures (scale (start f)) a.file.now
     c.before.sound.given.1
 
 pub write-stl-spec : {M : Type 1} → statement M

@@ -3,7 +3,7 @@
 use mathlib.Core.List.{List}
 use Prim.Native.Nat.{ℕ, ◌-◌}
 use lib.ListN.{length}
-use Rattle.stl.proofs.Searching.{Searching, search-begin, search-found, search-next, search-end}
+use Rattle.stl.proofs.Searching.{Searching, search_begin, search_found, search_next, search_end}
 use borrow.Author.Rules.{rules}
 use Rattle.stl.proofs.zeros.first_wrong.Statement.{statement}
 use Rattle.stl.proofs.zeros.first_wrong.Tie as tie
@@ -19,7 +19,7 @@ abbrev bytes : tie.At-loop invariant-loop decreases-loop → List ℕ
 bytes c = c.before.before.args.file.now
 
 loop-holds : tie.Need-loop-init invariant-loop decreases-loop
-loop-holds c = search-begin _
+loop-holds c = search_begin _
 
 wrong-at-requires : tie.Need-wrong-at-requires invariant-loop decreases-loop
 wrong-at-requires c κs = search rules
@@ -28,7 +28,7 @@ returns : tie.Need-returns invariant-loop decreases-loop
 returns c =
     let t = c.before in
     let l = t.before.before in
-    search-found (bytes l) l.loop.invariant t.wrong-at.ensures t.before.loop-test.true c.if1.true
+    search_found (bytes l) l.loop.invariant t.wrong-at.ensures t.before.loop-test.true c.if1.true
 
 add-i : tie.Need-overflow-add-i invariant-loop decreases-loop
 add-i c = search rules
@@ -40,10 +40,10 @@ loop-again : tie.Need-loop-preserved invariant-loop decreases-loop
 loop-again c =
     let t = c.before in
     let l = t.before.before in
-    search-next (bytes l) l.loop.invariant t.wrong-at.ensures t.before.loop-test.true c.if1.false
+    search_next (bytes l) l.loop.invariant t.wrong-at.ensures t.before.loop-test.true c.if1.false
 
 returns-2 : tie.Need-returns-2 invariant-loop decreases-loop
-returns-2 c = search-end (bytes c.before) c.before.loop.invariant c.loop-test.false
+returns-2 c = search_end (bytes c.before) c.before.loop.invariant c.loop-test.false
 
 pub first-wrong-spec : {M : Type 1} → statement M
 first-wrong-spec =

@@ -2,17 +2,17 @@
 -- its mesh, or the refusal's line, is written. Assumes nothing.
 use mathlib.Core.Path.{refl, sym}
 use lib.ListN.{replicate}
-use Rattle.rules.specs.Job.{countAll}
-use Rattle.rules.specs.Checks.{Lent, lengthsOf}
+use Rattle.rules.specs.Job.{count_all}
+use Rattle.rules.specs.Checks.{Lent, lengths_of}
 use Rattle.rules.specs.Sheet.{Sheet}
 use Rattle.lines.specs.Print.{Printed}
-use Rattle.lines.specs.Printing.{printed-as, printed-same-length}
+use Rattle.lines.specs.Printing.{printed_as, printed_same_length}
 use Rattle.outputs.specs.Ready.{buffers}
 use Rattle.sheet.specs.Answers.{Called}
-use Rattle.sheet.specs.Reading.{sheetOf, withLists}
-use Rattle.sheet.specs.Room.{printed-short}
-use Rattle.stlsheet.specs.Carving.{jobFile}
-use Rattle.stlsheet.proofs.Carved.{reply-file, file-room, reply-ready}
+use Rattle.sheet.specs.Reading.{sheet_of, with_lists}
+use Rattle.sheet.specs.Room.{printed_short}
+use Rattle.stlsheet.specs.Carving.{job_file}
+use Rattle.stlsheet.proofs.Carved.{reply_file_lem, file_room, reply_ready}
 use borrow.Author.Rules.{rules}
 use Rattle.stlsheet.proofs.answer.carve_job.Statement.{statement}
 use Rattle.stlsheet.proofs.answer.carve_job.Tie as tie
@@ -22,7 +22,7 @@ abbrev start : tie.After-header-of → tie.Start
 start h = h.before.before.before.before.before.before
 
 abbrev sheet : tie.Start → Sheet
-sheet s = let a = s.args in withLists (sheetOf a.x) a.lengths.now a.regions.now a.codes.now a.numbers.now
+sheet s = let a = s.args in with_lists (sheet_of a.x) a.lengths.now a.regions.now a.codes.now a.numbers.now
 
 -- the call of the build: what it is given, and what it leaves in the buffers
 abbrev headed : tie.After-into-polygon-mesh → tie.After-header-of
@@ -37,7 +37,7 @@ left m =
     buffers l.0 l.1.0 l.1.1.0 l.1.1.1.0 l.1.1.1.1.0 l.1.1.1.1.1.0 l.1.1.1.1.1.1.0
 
 called : (m : tie.After-into-polygon-mesh) → Called (sheet (start (headed m))) (headed m).header_of.result empty m.into-polygon-mesh.result (left m)
-unfolding withLists sheetOf lengthsOf countAll
+unfolding with_lists sheet_of lengths_of count_all
 called m = record {
   answered = m.into-polygon-mesh.ensures.0;
   left = m.into-polygon-mesh.ensures.1.0;
@@ -91,20 +91,20 @@ put-reply-requires c κs =
     let s = start (headed m) in
     let a = s.args in
     let k = m.into-polygon-mesh.kept.1.1.1.1.1.1.1.1.1 in
-    reply-ready a.x a.lengths.now a.regions.now a.codes.now a.numbers.now (called m)
+    reply_ready a.x a.lengths.now a.regions.now a.codes.now a.numbers.now (called m)
     k.0 k.1.0 k.1.1.0 a.out.now s.pre.room
 
 -- what is written
 whole : (c : tie.After-put-reply) → let a = (start (headed (built c.before))).args in
-    Printed (jobFile a.x a.lengths.now a.regions.now a.codes.now a.numbers.now) a.out.now c.put-reply.new.1.1.1.1.1.0 0
+    Printed (job_file a.x a.lengths.now a.regions.now a.codes.now a.numbers.now) a.out.now c.put-reply.new.1.1.1.1.1.0 0
     c.put-reply.result
 whole c =
     let m = built c.before in
     let a = (start (headed m)).args in
-    printed-as c.put-reply.ensures (sym (reply-file a.x a.lengths.now a.regions.now a.codes.now a.numbers.now (called m)))
+    printed_as c.put-reply.ensures (sym (reply_file_lem a.x a.lengths.now a.regions.now a.codes.now a.numbers.now (called m)))
 
 same_length : tie.Need-same-length
-same_length c = printed-same-length (whole c.before.before)
+same_length c = printed_same_length (whole c.before.before)
 
 returns : tie.Need-returns
 returns c =
@@ -112,8 +112,8 @@ returns c =
     let m = built p.before in
     let u = left m in (
       whole p,
-      printed-short p.put-reply.ensures
-          (file-room (start (headed m)).args.x m.into-polygon-mesh.result.reply u.vertices u.polygons u.neighbours),
+      printed_short p.put-reply.ensures
+          (file_room (start (headed m)).args.x m.into-polygon-mesh.result.reply u.vertices u.polygons u.neighbours),
     )
 
 pub carve-job-spec : {M : Type 1} → statement M

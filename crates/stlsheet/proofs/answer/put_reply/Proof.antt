@@ -1,9 +1,9 @@
 -- `stlsheet::answer::put_reply` meets its contract: a refusal's line, or the file of the mesh in the buffers. Assumes nothing.
 use native.Mathlib.Omega.{arith}
 use lib.ListN.{length}
-use Rattle.lines.specs.Printing.{printed-as}
-use Rattle.sheet.specs.Room.{refused-room}
-use Rattle.stlsheet.proofs.Carved.{refused-is, built-is, built-stands}
+use Rattle.lines.specs.Printing.{printed_as}
+use Rattle.sheet.specs.Room.{refused_room}
+use Rattle.stlsheet.proofs.Carved.{refused_is, built_is, built_stands}
 use borrow.Author.Rules.{rules}
 use Rattle.stlsheet.proofs.answer.put_reply.Statement.{statement}
 use Rattle.stlsheet.proofs.answer.put_reply.Tie as tie
@@ -33,7 +33,7 @@ put-refused-requires : tie.Need-put-refused-requires
 put-refused-requires c κs =
     let n = c.before in
     let s = start (refused n).before.before in
-    omega (arith, refused-room n.refusal-number.result c.refusal-second.result, s.pre.room)
+    omega (arith, refused_room n.refusal-number.result c.refusal-second.result, s.pre.room)
 
 enum-known-reply-2 : tie.Need-enum-known-reply-2
 enum-known-reply-2 c = search rules
@@ -43,7 +43,7 @@ put-carved-requires c κs =
     let r = built c in
     let s = start r.before.before in
     let a = s.args in
-    built-stands a.x a.reply a.vertices.now a.polygons.now a.neighbours.now
+    built_stands a.x a.reply a.vertices.now a.polygons.now a.neighbours.now
     r.reply2.given.0.0 r.reply2.given.0.1.0 r.reply2.given.1 s.pre
 
 same_length : tie.Need-same-length
@@ -56,8 +56,8 @@ returns c =
     let n = k.before in
     let r = refused n in
     let a = (start r.before.before).args in
-    printed-as p.Put-refused.ensures
-    (refused-is a.x a.reply a.vertices.now a.polygons.now a.neighbours.now
+    printed_as p.Put-refused.ensures
+    (refused_is a.x a.reply a.vertices.now a.polygons.now a.neighbours.now
     r.reply.given.0.0 n.refusal-number.result k.refusal-second.result
     r.reply.given.1 n.refusal-number.ensures k.refusal-second.ensures)
 
@@ -70,8 +70,8 @@ returns-2 c =
     let r = built p.before in
     let s = start r.before.before in
     let a = s.args in
-    printed-as p.put-carved.ensures
-    (built-is a.x a.reply a.vertices.now a.polygons.now a.neighbours.now
+    printed_as p.put-carved.ensures
+    (built_is a.x a.reply a.vertices.now a.polygons.now a.neighbours.now
     r.reply2.given.0.0 r.reply2.given.0.1.0 (length a.out.now) r.reply2.given.1 s.pre.room)
 
 pub put-reply-spec : {M : Type 1} → statement M

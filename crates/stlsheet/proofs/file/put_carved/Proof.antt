@@ -5,16 +5,16 @@ use Prim.Native.Nat.{ℕ, ◌+◌, ◌*◌, ◌≤◌}
 use native.Mathlib.Omega.{arith}
 use lib.ListN.{length, take}
 use lib.Seq.{length-take-le}
-use Rattle.rules.specs.Checks.{vertexStride}
+use Rattle.rules.specs.Checks.{vertex_stride}
 use Rattle.rules.specs.Handed.{Handed}
 use Rattle.rules.specs.Stl.{Scale}
-use Rattle.rules.specs.StlCall.{stlReply, stlExit}
+use Rattle.rules.specs.StlCall.{stl_reply, stl_exit}
 use Rattle.rules.specs.StlText.{scale_of}
-use Rattle.checker.specs.Asked.{handedIn}
-use Rattle.stl.specs.Steps.{scaleIn}
-use Rattle.sheet.specs.Room.{outMost, refused-room}
-use Rattle.stlsheet.specs.Carving.{carvedIn}
-use Rattle.stlsheet.proofs.Written.{file-fits, file-printed, mesh-refused, scale-refused, room-refused, scale-is}
+use Rattle.checker.specs.Asked.{handed_in}
+use Rattle.stl.specs.Steps.{scale_in}
+use Rattle.sheet.specs.Room.{out_most, refused_room}
+use Rattle.stlsheet.specs.Carving.{carved_in}
+use Rattle.stlsheet.proofs.Written.{file_fits, file_printed, mesh_refused, scale_refused, room_refused, scale_is}
 use borrow.Author.Rules.{rules}
 use Rattle.stlsheet.proofs.file.put_carved.Statement.{statement}
 use Rattle.stlsheet.proofs.file.put_carved.Tie as tie
@@ -27,7 +27,7 @@ abbrev mesh : tie.Start → Handed
 mesh s =
     let a = s.args in
     let rows = a.n * a.x.nvp in
-    handedIn a.x.nvp (take (a.k * vertexStride) a.vertices.now) (take rows a.polygons.now) (take rows a.neighbours.now)
+    handed_in a.x.nvp (take (a.k * vertex_stride) a.vertices.now) (take rows a.polygons.now) (take rows a.neighbours.now)
 
 abbrev scale : tie.Start → Scale
 scale s = let x = s.args.x in scale_of x.inches x.size x.height
@@ -46,30 +46,30 @@ abbrev left : tie.After-write-stl → List ℕ
 left w = w.write-stl.new.1.1.1.1.1.1.1.0
 
 scaled : (w : tie.After-write-stl) → let x = (given w).args.x in let t = sizes w in
-    scaleIn x.inches t.before.thousandths.result t.thousandths2.result ≡ scale (given w)
+    scale_in x.inches t.before.thousandths.result t.thousandths2.result ≡ scale (given w)
 scaled w =
     let x = (given w).args.x in
     let t = sizes w in
-    scale-is x.inches x.size x.height t.before.thousandths.ensures t.thousandths2.ensures
+    scale_is x.inches x.size x.height t.before.thousandths.ensures t.thousandths2.ensures
 
-answered : (w : tie.After-write-stl) → w.write-stl.result ≡ stlReply (mesh (given w)) (scale (given w)) (length (out (given w)))
-answered w = let s = given w in w.write-stl.ensures.0 ∙ ap (λ (c : Scale). stlReply (mesh s) c (length (out s))) (scaled w)
+answered : (w : tie.After-write-stl) → w.write-stl.result ≡ stl_reply (mesh (given w)) (scale (given w)) (length (out (given w)))
+answered w = let s = given w in w.write-stl.ensures.0 ∙ ap (λ (c : Scale). stl_reply (mesh s) c (length (out s))) (scaled w)
 
-bytes : (w : tie.After-write-stl) → left w ≡ stlExit (mesh (given w)) (scale (given w)) (out (given w))
-bytes w = let s = given w in w.write-stl.ensures.1 ∙ ap (λ (c : Scale). stlExit (mesh s) c (out s)) (scaled w)
+bytes : (w : tie.After-write-stl) → left w ≡ stl_exit (mesh (given w)) (scale (given w)) (out (given w))
+bytes w = let s = given w in w.write-stl.ensures.1 ∙ ap (λ (c : Scale). stl_exit (mesh s) c (out s)) (scaled w)
 
-room : (w : tie.After-write-stl) → length (left w) ≡ outMost
+room : (w : tie.After-write-stl) → length (left w) ≡ out_most
 room w = w.write-stl.auto.1.1.1.1.1.1.1.0 ∙ (given w).requires.room
 
 -- a file was written: its length is small
 abbrev wrote : tie.After-slice-known2 → tie.After-write-stl
 wrote c = c.before.before
 
-small : (c : tie.After-reply) → 84 + c.reply.given.0.0 * 50 ≤ outMost
+small : (c : tie.After-reply) → 84 + c.reply.given.0.0 * 50 ≤ out_most
 small c =
     let w = wrote c.before.before in
     let s = given w in
-    omega (arith, (file-fits (mesh s) (scale s) (length (out s)) c.reply.given.0.0 (sym (answered w) ∙ c.reply.given.1)).fits, s.pre.room)
+    omega (arith, (file_fits (mesh s) (scale s) (length (out s)) c.reply.given.0.0 (sym (answered w) ∙ c.reply.given.1)).fits, s.pre.room)
 
 cast-rows : tie.Need-overflow-cast-rows
 cast-rows c = search rules
@@ -87,7 +87,7 @@ mul-write-stl : tie.Need-overflow-mul-write-stl
 mul-write-stl c = search rules
 
 slice-aggregate-write-stl : tie.Need-slice-aggregate-write-stl
-slice-aggregate-write-stl c = let s = start c.before in sym (length-take-le (s.args.k * vertexStride) s.args.vertices.now s.pre.vertices)
+slice-aggregate-write-stl c = let s = start c.before in sym (length-take-le (s.args.k * vertex_stride) s.args.vertices.now s.pre.vertices)
 
 slice-aggregate-write-stl-2 : tie.Need-slice-aggregate-write-stl-2
 slice-aggregate-write-stl-2 c =
@@ -123,36 +123,36 @@ fault-second-requires c κs = search rules
 put-refused-requires : tie.Need-put-refused-requires
 put-refused-requires c κs =
     let f = c.before.before.before.before in
-    omega (arith, refused-room c.before.fault-number.result c.fault-second.result, room (wrote f.before.before))
+    omega (arith, refused_room c.before.fault-number.result c.fault-second.result, room (wrote f.before.before))
 
 enum_told : tie.Need-enum-told
 enum_told c = search rules
 
 put-refused-requires-2 : tie.Need-put-refused-requires-2
-put-refused-requires-2 c κs = omega (arith, refused-room 70 0, room (wrote c.before.before.before))
+put-refused-requires-2 c κs = omega (arith, refused_room 70 0, room (wrote c.before.before.before))
 
 enum-told-2 : tie.Need-enum-told-2
 enum-told-2 c = search rules
 
 put-refused-requires-3 : tie.Need-put-refused-requires-3
-put-refused-requires-3 c κs = omega (arith, refused-room 71 0, room (wrote c.before.before.before))
+put-refused-requires-3 c κs = omega (arith, refused_room 71 0, room (wrote c.before.before.before))
 
 same_length : tie.Need-same-length
 same_length c = search rules
 
 returns : tie.Need-returns
-unfolding carvedIn
+unfolding carved_in
 returns c =
     let r = c.before in
     let w = wrote r.before.before in
     let s = given w in
-    file-printed (mesh s) (scale s) (out s) (answered w) (bytes w) r.reply.given.0.0 r.reply.given.1
+    file_printed (mesh s) (scale s) (out s) (answered w) (bytes w) r.reply.given.0.0 r.reply.given.1
 
 same-length-2 : tie.Need-same-length-2
 same-length-2 c = search rules
 
 returns-2 : tie.Need-returns-2
-unfolding carvedIn
+unfolding carved_in
 returns-2 c =
     let p = c.before.before in
     let b = p.before in
@@ -160,32 +160,32 @@ returns-2 c =
     let r = a.before.before.before in
     let w = wrote r.before.before in
     let s = given w in
-    mesh-refused (mesh s) (scale s) (out s) (answered w) (bytes w) r.reply2.given.0.0 a.fault-number.result b.fault-second.result
+    mesh_refused (mesh s) (scale s) (out s) (answered w) (bytes w) r.reply2.given.0.0 a.fault-number.result b.fault-second.result
     p.Put-refused.ensures r.reply2.given.1 a.fault-number.ensures b.fault-second.ensures
 
 same-length-3 : tie.Need-same-length-3
 same-length-3 c = search rules
 
 returns-3 : tie.Need-returns-3
-unfolding carvedIn
+unfolding carved_in
 returns-3 c =
     let p = c.before.before in
     let t = p.before.before in
     let w = wrote t.before.before in
     let s = given w in
-    scale-refused (mesh s) (scale s) (out s) (answered w) (bytes w) p.put-refused2.ensures t.enum_told.given.1
+    scale_refused (mesh s) (scale s) (out s) (answered w) (bytes w) p.put-refused2.ensures t.enum_told.given.1
 
 same-length-4 : tie.Need-same-length-4
 same-length-4 c = search rules
 
 returns-4 : tie.Need-returns-4
-unfolding carvedIn
+unfolding carved_in
 returns-4 c =
     let p = c.before.before in
     let t = p.before.before in
     let w = wrote t.before.before in
     let s = given w in
-    room-refused (mesh s) (scale s) (out s) (answered w) (bytes w) p.put-refused3.ensures t.enum-told2.given.1
+    room_refused (mesh s) (scale s) (out s) (answered w) (bytes w) p.put-refused3.ensures t.enum-told2.given.1
 
 pub put-carved-spec : {M : Type 1} → statement M
 put-carved-spec =

@@ -1,14 +1,14 @@
 -- `stlsheet::text::stl_sheet` meets its contract: a refusal of the reading, or the file of the job of the lists that were read. Assumes nothing.
 use mathlib.Core.Path.{sym}
 use native.Mathlib.Omega.{arith}
-use Rattle.rules.specs.Sheet.{readSheet, outcomeOf}
-use Rattle.rules.specs.StlText.{carvedText, stlText}
-use Rattle.lines.specs.Printing.{printed-as}
-use Rattle.stlsheet.specs.Carving.{jobFile}
+use Rattle.rules.specs.Sheet.{read_sheet, outcome_of}
+use Rattle.rules.specs.StlText.{carved_text, stl_text}
+use Rattle.lines.specs.Printing.{printed_as}
+use Rattle.stlsheet.specs.Carving.{job_file}
 use Rattle.sheet.specs.Parts.{whole_part, whole_numbers}
-use Rattle.sheet.specs.Reading.{readBytes, TakenAs}
-use Rattle.sheet.specs.Room.{refused-room, printed-counts}
-use Rattle.sheet.specs.Texts.{bad-as, bad-text, taken_as, taken-text, whole-answer}
+use Rattle.sheet.specs.Reading.{read_bytes, TakenAs}
+use Rattle.sheet.specs.Room.{refused_room, printed_counts}
+use Rattle.sheet.specs.Texts.{bad_as, bad_text, taken_as, taken_text, whole_answer}
 use borrow.Author.Rules.{rules}
 use Rattle.stlsheet.proofs.text.stl_sheet.Statement.{statement}
 use Rattle.stlsheet.proofs.text.stl_sheet.Tie as tie
@@ -28,7 +28,7 @@ abbrev sheet : tie.After-numbers3 → tie.After-x
 sheet c = c.before.before.before.before.before
 
 read : (x : tie.After-x) → let r = reader x in
-    TakenAs (readBytes (start r).args.text.now) x.x.given.0.0 x.x.given.0.1.0 x.x.given.0.1.1.0
+    TakenAs (read_bytes (start r).args.text.now) x.x.given.0.0 x.x.given.0.1.0 x.x.given.0.1.1.0
     r.read-sheet.last.1.0 r.read-sheet.last.1.1.0 r.read-sheet.last.1.1.1.0 r.read-sheet.last.1.1.1.1.0
 read x = taken_as (reader x).read-sheet.ensures x.x.given.1
 
@@ -53,7 +53,7 @@ enum-known-n c = search rules
 put-refused-requires : tie.Need-put-refused-requires
 put-refused-requires c κs =
     let n = c.before.before in
-    omega (arith, refused-room n.n.given.0.0 n.n.given.0.1.0, c.put-refused-arg.given.0.1)
+    omega (arith, refused_room n.n.given.0.0 n.n.given.0.1.0, c.put-refused-arg.given.0.1)
 
 enum-known-x : tie.Need-enum-known-x
 enum-known-x c = search rules
@@ -103,21 +103,21 @@ carve-job-requires c κs =
     record { few = omega (arith, t.declared, t.vertices); room = omega (arith, c.carve-job-arg.given.0.1) }
 
 returns : tie.Need-returns
-unfolding stlText
+unfolding stl_text
 returns c =
     let n = c.before.before.before in
     let r = called n.before.before in
     let s = start r in
-    whole-answer c.before.put-refused-arg.given.0.1 (refused-room n.n.given.0.0 n.n.given.0.1.0) c.Put-refused.ensures
-    (bad-text readSheet (λ t. carvedText t (outcomeOf t.job)) s.args.text.now (bad-as r.read-sheet.ensures n.n.given.1))
+    whole_answer c.before.put-refused-arg.given.0.1 (refused_room n.n.given.0.0 n.n.given.0.1.0) c.Put-refused.ensures
+    (bad_text read_sheet (λ t. carved_text t (outcome_of t.job)) s.args.text.now (bad_as r.read-sheet.ensures n.n.given.1))
 
 returns-2 : tie.Need-returns-2
-unfolding stlText jobFile
+unfolding stl_text job_file
 returns-2 c =
     let x = sheet c.before.before in
     let s = start (reader x) in
-    let p = printed-as c.carve-job.ensures.0 (sym (taken-text readSheet (λ t. carvedText t (outcomeOf t.job)) s.args.text.now (read x).same)) in
-    (p, printed-counts p c.carve-job.ensures.1 c.before.carve-job-arg.given.0.1)
+    let p = printed_as c.carve-job.ensures.0 (sym (taken_text read_sheet (λ t. carved_text t (outcome_of t.job)) s.args.text.now (read x).same)) in
+    (p, printed_counts p c.carve-job.ensures.1 c.before.carve-job-arg.given.0.1)
 
 pub stl-sheet-spec : {M : Type 1} → statement M
 stl-sheet-spec =

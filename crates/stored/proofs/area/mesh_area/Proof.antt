@@ -10,11 +10,11 @@ use mir.Val.{of_z}
 use borrow.Author.Rules.{rules}
 use Rattle.ints.specs.Machine.{Reads, reads_of}
 use Rattle.mem.specs.Slice.{view}
-use Rattle.rules.specs.Exits.{upToNone}
+use Rattle.rules.specs.Exits.{up_to_none}
 use Rattle.rules.specs.Plane.{area}
 use Rattle.stored.specs.Stored.{places_of}
-use Rattle.stored.specs.Counts.{count_most, corners-there}
-use Rattle.stored.proofs.Sums.{row-end, polygon-ready, Summed, summed-none, summed-all, add-needs, summed-more}
+use Rattle.stored.specs.Counts.{count_most, corners_there}
+use Rattle.stored.proofs.Sums.{row_end, polygon_ready, Summed, summed_none, summed_all, add_needs, summed_more}
 use Rattle.stored.proofs.area.mesh_area.Statement.{statement}
 use Rattle.stored.proofs.area.mesh_area.Tie as tie
 
@@ -41,7 +41,7 @@ inside : (c : tie.In-loop invariant-loop decreases-loop) → c.before.loop.i < (
 inside c = omega (arith, c.loop-test.true)
 
 row_fits : (c : tie.In-loop invariant-loop decreases-loop) → place c + wide c ≤ length (words c)
-row_fits c = row-end (start c).requires c.before.loop.i (inside c)
+row_fits c = row_end (start c).requires c.before.loop.i (inside c)
 
 -- its corners: their count, the words that are lent for them, and what they are
 abbrev count : tie.After-count-corners invariant-loop decreases-loop → ℕ
@@ -56,12 +56,12 @@ abbrev lent : tie.After-count-corners invariant-loop decreases-loop → List ℕ
 lent c = view (words c.before.before) (place c.before.before) (place c.before.before + count c - place c.before.before)
 
 abbrev corners : tie.In-loop invariant-loop decreases-loop → List ℕ
-corners c = upToNone (view (words c) (place c) (wide c))
+corners c = up_to_none (view (words c) (place c) (wide c))
 
 there : (c : tie.After-count-corners invariant-loop decreases-loop) → lent c ≡ corners c.before.before
 there c =
     let t = c.before.before in
-    corners-there (words t) (place t) (wide t) (place t + wide t - place t) (count c) (omega arith) (row_fits t) c.count-corners.ensures
+    corners_there (words t) (place t) (wide t) (place t + wide t - place t) (count c) (omega arith) (row_fits t) c.count-corners.ensures
     (place t + count c - place t) (omega arith)
 
 -- what is added
@@ -75,7 +75,7 @@ added : (c : tie.After-polygon-area invariant-loop decreases-loop) → c.polygon
 added c = c.polygon-area.ensures ∙ ap (λ (l : List ℕ). area (places_of (start (turn c)).args.vertices.now l)) (there c.before.before)
 
 loop-holds : tie.Need-loop-init invariant-loop decreases-loop
-loop-holds c = summed-none _ _ _ _ _
+loop-holds c = summed_none _ _ _ _ _
 
 mul-from : tie.Need-overflow-mul-from invariant-loop decreases-loop
 mul-from c = record { fits = omega (arith, row_fits c) }
@@ -116,10 +116,10 @@ part-polygon-area-end c = omega (arith, row_fits c.before.before, few c)
 polygon-area-requires : tie.Need-polygon-area-requires invariant-loop decreases-loop
 polygon-area-requires c κs =
     let t = c.before.before.before in
-    rw (there c.before) (polygon-ready (start t).requires t.before.loop.i (inside t))
+    rw (there c.before) (polygon_ready (start t).requires t.before.loop.i (inside t))
 
 add-sum : tie.Need-overflow-add-sum invariant-loop decreases-loop
-add-sum c = add-needs (start (turn c)).pre (turn c).before.loop.invariant (inside (turn c)) (bits c) (added c)
+add-sum c = add_needs (start (turn c)).pre (turn c).before.loop.invariant (inside (turn c)) (bits c) (added c)
 
 add-i : tie.Need-overflow-add-i invariant-loop decreases-loop
 add-i c = search rules
@@ -128,10 +128,10 @@ loop-less : tie.Need-loop-smaller invariant-loop decreases-loop
 loop-less c = search rules
 
 loop-again : tie.Need-loop-preserved invariant-loop decreases-loop
-loop-again c = summed-more (start (turn c)).pre (turn c).before.loop.invariant (inside (turn c)) (bits c) (added c)
+loop-again c = summed_more (start (turn c)).pre (turn c).before.loop.invariant (inside (turn c)) (bits c) (added c)
 
 returns : tie.Need-returns invariant-loop decreases-loop
-returns c = summed-all c.before.loop.invariant (omega (arith, c.loop-test.false))
+returns c = summed_all c.before.loop.invariant (omega (arith, c.loop-test.false))
 
 pub mesh-area-spec : {M : Type 1} → statement M
 mesh-area-spec =

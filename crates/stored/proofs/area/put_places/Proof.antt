@@ -6,7 +6,7 @@ use lib.ListN.{length, length-set}
 use mir.Facts.{Fits-widen}
 use borrow.Author.Rules.{rules}
 use Rattle.mem.specs.Packed.{laid_none}
-use Rattle.stored.proofs.Places.{Placed, placed-more, placed-all}
+use Rattle.stored.proofs.Places.{Placed, placed_more, placed_all}
 use Rattle.stored.proofs.area.put_places.Statement.{statement}
 use Rattle.stored.proofs.area.put_places.Tie as tie
 
@@ -86,13 +86,13 @@ loop-less c = search rules
 loop-again : tie.Need-loop-preserved invariant-loop decreases-loop
 loop-again c =
     let t = c.before.before.before in
-    placed-more t.before.before.args.vertices.now t.before.before.args.corners.now t.before.loop.invariant t.loop-test.true
+    placed_more t.before.before.args.vertices.now t.before.before.args.corners.now t.before.loop.invariant t.loop-test.true
 
 same_length : tie.Need-same-length invariant-loop decreases-loop
 same_length c = search rules
 
 returns : tie.Need-returns invariant-loop decreases-loop
-returns c = placed-all c.before.before.args.vertices.now c.before.before.args.corners.now c.before.loop.invariant c.loop-test.false
+returns c = placed_all c.before.before.args.vertices.now c.before.before.args.corners.now c.before.loop.invariant c.loop-test.false
 
 pub put-places-spec : {M : Type 1} → statement M
 put-places-spec =

@@ -3,7 +3,7 @@
 use Prim.Native.Nat.{◌-◌}
 use lib.ListN.{length}
 use borrow.Author.Rules.{rules}
-use Rattle.stored.proofs.Counting.{Counting, counting-none, counting_more, counted-there, counted-all}
+use Rattle.stored.proofs.Counting.{Counting, counting_none, counting_more, counted_there, counted_all}
 use Rattle.stored.proofs.corners.count_corners.Statement.{statement}
 use Rattle.stored.proofs.corners.count_corners.Tie as tie
 
@@ -14,7 +14,7 @@ abbrev decreases-loop : tie.decreases-loop
 decreases-loop row c₀ c = length row - c
 
 loop-holds : tie.Need-loop-init invariant-loop decreases-loop
-loop-holds c = counting-none _
+loop-holds c = counting_none _
 
 mul-if1 : tie.Need-overflow-mul-if1 invariant-loop decreases-loop
 mul-if1 c = search rules
@@ -32,10 +32,10 @@ loop-again : tie.Need-loop-preserved invariant-loop decreases-loop
 loop-again c = counting_more c.before.before.before.loop.invariant c.before.before.loop-test.true c.if1.false
 
 returns : tie.Need-returns invariant-loop decreases-loop
-returns c = counted-all c.before.loop.invariant c.loop-test.false
+returns c = counted_all c.before.loop.invariant c.loop-test.false
 
 returns-2 : tie.Need-returns-2 invariant-loop decreases-loop
-returns-2 c = counted-there c.before.before.before.loop.invariant c.before.before.loop-test.true c.if1.true
+returns-2 c = counted_there c.before.before.before.loop.invariant c.before.before.loop-test.true c.if1.true
 
 pub count-corners-spec : {M : Type 1} → statement M
 count-corners-spec =

@@ -1,6 +1,6 @@
 -- `stored::vertices::vertex_at` meets its contract: the three numbers that it reads are x, y and z of the definition. Assumes nothing.
 use mathlib.Core.Path.{refl}
-use Rattle.stored.specs.Stored.{vertexIn}
+use Rattle.stored.specs.Stored.{vertex_in}
 use borrow.Author.Rules.{rules}
 use Rattle.stored.proofs.vertices.vertex_at.Statement.{statement}
 use Rattle.stored.proofs.vertices.vertex_at.Tie as tie
@@ -33,7 +33,7 @@ shared-slice-read-t14 : tie.Need-shared-slice-read-t14
 shared-slice-read-t14 c = search rules
 
 returns : tie.Need-returns
-unfolding vertexIn
+unfolding vertex_in
 returns c = refl
 
 pub vertex-at-spec : {M : Type 1} → statement M

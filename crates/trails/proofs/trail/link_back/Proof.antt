@@ -1,6 +1,6 @@
 -- `trails::trail::link_back` meets its contract: the side has gone, and its point stands behind the chain. Assumes nothing.
 use borrow.Author.Rules.{rules}
-use Rattle.trails.proofs.Steps.{came-back}
+use Rattle.trails.proofs.Steps.{came_back}
 use Rattle.trails.proofs.trail.link_back.Statement.{statement}
 use Rattle.trails.proofs.trail.link_back.Tie as tie
 
@@ -30,7 +30,7 @@ returns c =
     let d = c.before.before.before.before in
     let k = d.before.before.before.before in
     let s = k.before.before.before.before.before in
-    came-back s.args.part.now s.args.t s.args.s s.requires k.use-side.ensures d.store-point.ensures
+    came_back s.args.part.now s.args.t s.args.s s.requires k.use-side.ensures d.store-point.ensures
 
 pub link-back-spec : {M : Type 1} → statement M
 link-back-spec =

@@ -1,6 +1,6 @@
 -- `trails::trail::link_front` meets its contract: the side has gone, and its point stands in front of the chain. Assumes nothing.
 use borrow.Author.Rules.{rules}
-use Rattle.trails.proofs.Steps.{came-front}
+use Rattle.trails.proofs.Steps.{came_front}
 use Rattle.trails.proofs.trail.link_front.Statement.{statement}
 use Rattle.trails.proofs.trail.link_front.Tie as tie
 
@@ -27,7 +27,7 @@ returns c =
     let d = c.before.before.before.before in
     let k = d.before.before.before.before in
     let s = k.before.before.before.before in
-    came-front s.args.part.now s.args.t s.args.s s.requires k.use-side.ensures d.store-point.ensures
+    came_front s.args.part.now s.args.t s.args.s s.requires k.use-side.ensures d.store-point.ensures
 
 pub link-front-spec : {M : Type 1} → statement M
 link-front-spec =

@@ -1,7 +1,7 @@
 -- `trails::trail::try_side` meets its contract: each arm is the definition with its tests known. Assumes nothing.
 use mathlib.Core.Path.{refl}
 use borrow.Author.Rules.{rules}
-use Rattle.trails.proofs.Steps.{tried-front, tried-back, tried-past}
+use Rattle.trails.proofs.Steps.{tried_front, tried_back, tried_past}
 use Rattle.trails.proofs.trail.try_side.Statement.{statement}
 use Rattle.trails.proofs.trail.try_side.Tie as tie
 
@@ -29,7 +29,7 @@ returns c =
     let f = n.before.before.before in
     let l = f.before.before in
     let s = l.before.before.before in
-    tried-front s.args.part.now s.args.t l.load_side.ensures f.load-point.ensures
+    tried_front s.args.part.now s.args.t l.load_side.ensures f.load-point.ensures
     c.before.before.before.before.if1.true refl c.before.before.link-front.ensures
 
 link-back-requires : tie.Need-link-back-requires
@@ -44,7 +44,7 @@ returns-2 c =
     let f = n.before.before.before in
     let l = f.before.before in
     let s = l.before.before.before in
-    tried-back s.args.part.now s.args.t l.load_side.ensures f.load-point.ensures n.load-point2.ensures
+    tried_back s.args.part.now s.args.t l.load_side.ensures f.load-point.ensures n.load-point2.ensures
     c.before.before.before.before.before.if1.false refl c.before.before.before.before.if2.true refl c.before.before.link-back.ensures
 
 add-t14 : tie.Need-overflow-add-t14
@@ -59,7 +59,7 @@ returns-3 c =
     let f = n.before.before.before in
     let l = f.before.before in
     let s = l.before.before.before in
-    tried-past s.args.part.now s.args.t l.load_side.ensures f.load-point.ensures n.load-point2.ensures
+    tried_past s.args.part.now s.args.t l.load_side.ensures f.load-point.ensures n.load-point2.ensures
     c.before.before.if1.false refl c.before.if2.false refl s.requires
 
 pub try-side-spec : {M : Type 1} → statement M

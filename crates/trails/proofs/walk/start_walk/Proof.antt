@@ -1,6 +1,6 @@
 -- `trails::walk::start_walk` meets its contract: the chain is the first side's first point. Assumes nothing.
 use borrow.Author.Rules.{rules}
-use Rattle.trails.proofs.Steps.{came-first}
+use Rattle.trails.proofs.Steps.{came_first}
 use Rattle.trails.proofs.walk.start_walk.Statement.{statement}
 use Rattle.trails.proofs.walk.start_walk.Tie as tie
 
@@ -27,7 +27,7 @@ returns c =
     let d = c.before.before in
     let l = d.before.before in
     let s = l.before.before.before in
-    came-first s.args.part.now s.args.n s.requires.1 l.load_side.ensures d.store-point.ensures
+    came_first s.args.part.now s.args.n s.requires.1 l.load_side.ensures d.store-point.ensures
 
 pub start-walk-spec : {M : Type 1} → statement M
 start-walk-spec =

@@ -1,7 +1,7 @@
 -- `trails::walk::walk_in` meets its contract: the chain is moved to the beginning, and what lies behind it wiped. Assumes nothing.
 use borrow.Author.Rules.{rules}
 use lib.ListN.{length}
-use Rattle.trails.proofs.Passes.{walk-over}
+use Rattle.trails.proofs.Passes.{walk_over}
 use Rattle.trails.proofs.walk.walk_in.Statement.{statement}
 use Rattle.trails.proofs.walk.walk_in.Tie as tie
 
@@ -29,7 +29,7 @@ returns c =
     let m = z.before.before.before.before in
     let a = m.before.before.before.before.before in
     let g = a.before.before.before.args in
-    walk-over a.walk-all.ensures (length g.part.now) a.walk-all.auto.0 m.move_down.ensures z.fill.ensures
+    walk_over a.walk-all.ensures (length g.part.now) a.walk-all.auto.0 m.move_down.ensures z.fill.ensures
 
 pub walk-in-spec : {M : Type 1} → statement M
 walk-in-spec =

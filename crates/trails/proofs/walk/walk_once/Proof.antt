@@ -3,19 +3,19 @@
 use Prim.Native.Nat.{◌-◌}
 use borrow.Author.Rules.{rules}
 use Rattle.rules.specs.Fuel.{passing}
-use Rattle.trails.specs.Trails.{walkIn}
-use Rattle.trails.proofs.Passes.{Going, going-none, going_more, going_less, going_end, pass-over}
+use Rattle.trails.specs.Trails.{walk_in}
+use Rattle.trails.proofs.Passes.{Going, going_none, going_more, going_less, going_end, pass_over}
 use Rattle.trails.proofs.walk.walk_once.Statement.{statement}
 use Rattle.trails.proofs.walk.walk_once.Tie as tie
 
 abbrev invariant-loop : tie.invariant-loop
-invariant-loop part₀ u₀ part u = Going (passing (walkIn part₀ u₀)) part₀ part u
+invariant-loop part₀ u₀ part u = Going (passing (walk_in part₀ u₀)) part₀ part u
 
 abbrev decreases-loop : tie.decreases-loop
 decreases-loop part₀ u₀ part u = u.left - u.at
 
 loop-holds : tie.Need-loop-init invariant-loop decreases-loop
-loop-holds c = let g = c.before in going-none g.args.part.now g.args.t g.requires
+loop-holds c = let g = c.before in going_none g.args.part.now g.args.t g.requires
 
 try-side-requires : tie.Need-try-side-requires invariant-loop decreases-loop
 try-side-requires c κs = record { room = c.before.before.before.loop.invariant.room; below = search rules }
@@ -32,7 +32,7 @@ same_length c = search rules
 returns : tie.Need-returns invariant-loop decreases-loop
 returns c =
     let s = c.before.before.before.before in
-    pass-over s.args.part.now s.args.t (going_end c.before.before.loop.invariant (search rules))
+    pass_over s.args.part.now s.args.t (going_end c.before.before.loop.invariant (search rules))
 
 pub walk-once-spec : {M : Type 1} → statement M
 walk-once-spec =

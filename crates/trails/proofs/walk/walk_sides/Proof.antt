@@ -1,6 +1,6 @@
 -- `trails::walk::walk_sides` meets its contract: it is `walk_in` in a part that the buffer lends. Assumes nothing.
 use borrow.Author.Rules.{rules}
-use Rattle.trails.proofs.Passes.{walk-lent}
+use Rattle.trails.proofs.Passes.{walk_lent}
 use Rattle.trails.proofs.walk.walk_sides.Statement.{statement}
 use Rattle.trails.proofs.walk.walk_sides.Tie as tie
 
@@ -26,7 +26,7 @@ returns : tie.Need-returns
 returns c =
     let k = c.before.before in
     let s = k.before.before.before in
-    walk-lent s.args.work.now k.walk-in.new.0 s.args.q s.args.e s.args.n s.requires k.walk-in.ensures k.walk-in.auto.0
+    walk_lent s.args.work.now k.walk-in.new.0 s.args.q s.args.e s.args.n s.requires k.walk-in.ensures k.walk-in.auto.0
 
 pub walk-sides-spec : {M : Type 1} → statement M
 walk-sides-spec =

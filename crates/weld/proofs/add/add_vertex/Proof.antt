@@ -1,4 +1,4 @@
-use Rattle.weld.proofs.Puts.{added-old, added_new}
+use Rattle.weld.proofs.Puts.{added_old, added_new}
 use Rattle.std.proofs.Common.{rules}
 use Rattle.weld.proofs.add.add_vertex.Statement.{statement}
 use Rattle.weld.proofs.add.add_vertex.Tie as tie
@@ -21,7 +21,7 @@ same_length c = search rules
 
 -- src/add.rt:36:13
 returns : tie.Need-returns
-returns c = let s = c.before.before.before.before.before.before in added-old s.args.height s.args.work.now s.args.t s.args.nv s.args.v _ (rw c.before.k.given.1 at c.before.before.before.find-vertex.ensures)
+returns c = let s = c.before.before.before.before.before.before in added_old s.args.height s.args.work.now s.args.t s.args.nv s.args.v _ (rw c.before.k.given.1 at c.before.before.before.find-vertex.ensures)
 
 -- src/add.rt:39:24
 enum_told : tie.Need-enum-told

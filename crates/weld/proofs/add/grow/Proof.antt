@@ -1,4 +1,4 @@
-use Rattle.weld.proofs.Puts.{grown-new, grown-old}
+use Rattle.weld.proofs.Puts.{grown_new, grown_old}
 use Rattle.std.proofs.Common.{rules}
 use Rattle.weld.proofs.add.grow.Statement.{statement}
 use Rattle.weld.proofs.add.grow.Tie as tie
@@ -11,11 +11,11 @@ add-result c = search rules
 
 -- src/add.rt:57:1
 returns : tie.Need-returns
-returns c = grown-new _ _ c.if1.true
+returns c = grown_new _ _ c.if1.true
 
 -- src/add.rt:57:1
 returns-2 : tie.Need-returns-2
-returns-2 c = grown-old _ _ c.if1.false
+returns-2 c = grown_old _ _ c.if1.false
 
 pub grow_spec : {M : Type 1} → statement M
 grow_spec = tie.close (tie.spec add-result returns returns-2)

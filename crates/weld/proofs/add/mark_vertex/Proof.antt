@@ -1,4 +1,4 @@
-use Rattle.weld.proofs.Puts.{flag-set, flag-clear}
+use Rattle.weld.proofs.Puts.{flag_set, flag_clear}
 use Rattle.std.proofs.Common.{rules}
 use Rattle.weld.proofs.add.mark_vertex.Statement.{statement}
 use Rattle.weld.proofs.add.mark_vertex.Tie as tie
@@ -31,11 +31,11 @@ same_length c = search rules
 
 -- src/add.rt:52:9
 returns : tie.Need-returns
-returns c = let s = c.before.before in flag-set s.args.work.now s.args.t s.args.nv s.requires.0 s.args.k s.args.flag s.requires.1 c.before.if1.true
+returns c = let s = c.before.before in flag_set s.args.work.now s.args.t s.args.nv s.requires.0 s.args.k s.args.flag s.requires.1 c.before.if1.true
 
 -- src/add.rt:46:1
 returns-2 : tie.Need-returns-2
-returns-2 c = let s = c.before in flag-clear s.args.work.now s.args.t s.args.nv s.requires.0 s.args.k s.args.flag c.if1.false
+returns-2 c = let s = c.before in flag_clear s.args.work.now s.args.t s.args.nv s.requires.0 s.args.k s.args.flag c.if1.false
 
 pub mark-vertex-spec : {M : Type 1} → statement M
 mark-vertex-spec =

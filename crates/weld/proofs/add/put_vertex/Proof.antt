@@ -1,5 +1,5 @@
 use Rattle.std.proofs.Common.{refl, arith, length-set, rules}
-use Rattle.weld.proofs.Puts.{put-steps}
+use Rattle.weld.proofs.Puts.{put_steps}
 use Rattle.weld.proofs.add.put_vertex.Statement.{statement}
 use Rattle.weld.proofs.add.put_vertex.Tie as tie
 use Rattle.weld.proofs.add.put_vertex.Reads as reads
@@ -75,7 +75,7 @@ same_length c = simp length-set (simp length-set at c.before.before.before.store
 returns : tie.Need-returns
 returns c =
     let s = c.before.before.before.before.before.before.before.before.before.before in
-    put-steps s.args.work.now s.args.t s.args.nv s.requires.0 s.args.v s.requires.1 c.before.before.before.before.before.before.before.before.compute-vertex-hash.ensures.0 refl c.before.before.before.store-vertex.ensures
+    put_steps s.args.work.now s.args.t s.args.nv s.requires.0 s.args.v s.requires.1 c.before.before.before.before.before.before.before.before.compute-vertex-hash.ensures.0 refl c.before.before.before.store-vertex.ensures
 
 pub put-vertex-spec : {M : Type 1} → statement M
 put-vertex-spec =

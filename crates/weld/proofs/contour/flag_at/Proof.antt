@@ -1,5 +1,5 @@
 use Rattle.std.proofs.Common.{refl, rules}
-use Rattle.rules.specs.Job.{flagAt}
+use Rattle.rules.specs.Job.{flag_at}
 use Rattle.weld.proofs.contour.flag_at.Statement.{statement}
 use Rattle.weld.proofs.contour.flag_at.Tie as tie
 use Rattle.weld.proofs.contour.flag_at.Reads as reads
@@ -23,7 +23,7 @@ shared-slice-read-result c = search rules
 
 -- src/contour.rt:29:1
 returns : tie.Need-returns
-unfolding flagAt
+unfolding flag_at
 returns c = refl
 
 pub flag-at-spec : {M : Type 1} → statement M

@@ -1,5 +1,5 @@
 use Rattle.std.proofs.Common.{refl, rules}
-use Rattle.rules.specs.Job.{vertexAt}
+use Rattle.rules.specs.Job.{vertex_at}
 use Rattle.weld.proofs.contour.vertex_at.Statement.{statement}
 use Rattle.weld.proofs.contour.vertex_at.Tie as tie
 use Rattle.weld.proofs.contour.vertex_at.Reads as reads
@@ -43,7 +43,7 @@ shared-slice-read-t14 c = search rules
 
 -- src/contour.rt:16:1
 returns : tie.Need-returns
-unfolding vertexAt
+unfolding vertex_at
 returns c = refl
 
 pub vertex-at-spec : {M : Type 1} → statement M

@@ -1,5 +1,5 @@
 use Rattle.std.proofs.Common.{◌-◌, refl, rules}
-use Rattle.weld.proofs.Contours.{Going, going-begin, going-now, going-room, going_more, going_end}
+use Rattle.weld.proofs.Contours.{Going, going_begin, going_now, going_room, going_more, going_end}
 use Rattle.weld.proofs.contour.weld_contour.Statement.{statement}
 use Rattle.weld.proofs.contour.weld_contour.Tie as tie
 use Rattle.weld.proofs.contour.weld_contour.Reads as reads
@@ -17,7 +17,7 @@ decreases-loop work₀ t nv ko numbers first n height m₀ i₀ work m i = n - i
 
 -- src/contour.rt:53:5
 loop-holds : tie.Need-loop-init invariant-loop decreases-loop
-loop-holds c = let s = c.before.before in going-begin s.args.height s.args.work.now s.args.numbers.now s.args.t s.args.nv s.args.ko s.args.first s.args.n s.requires
+loop-holds c = let s = c.before.before in going_begin s.args.height s.args.work.now s.args.numbers.now s.args.t s.args.nv s.args.ko s.args.first s.args.n s.requires
 
 -- src/contour.rt:54:36
 add-vertex-at : tie.Need-overflow-add-vertex-at invariant-loop decreases-loop
@@ -39,8 +39,8 @@ flag-at-requires c κs = search rules
 weld-vertex-requires : tie.Need-weld-vertex-requires invariant-loop decreases-loop
 weld-vertex-requires c κs =
     let s = c.before.before.before.before.before.before.before in (
-      going-now s.args.height s.args.work.now s.args.numbers.now s.args.t s.args.nv s.args.ko s.args.first s.args.n s.requires c.before.before.before.before.loop.invariant,
-      going-room s.args.height s.args.work.now s.args.numbers.now s.args.t s.args.nv s.args.ko s.args.first s.args.n s.requires c.before.before.before.before.loop.invariant c.before.before.before.loop-test.true,
+      going_now s.args.height s.args.work.now s.args.numbers.now s.args.t s.args.nv s.args.ko s.args.first s.args.n s.requires c.before.before.before.before.loop.invariant,
+      going_room s.args.height s.args.work.now s.args.numbers.now s.args.t s.args.nv s.args.ko s.args.first s.args.n s.requires c.before.before.before.before.loop.invariant c.before.before.before.loop-test.true,
     )
 
 -- src/contour.rt:57:24

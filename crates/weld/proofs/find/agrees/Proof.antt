@@ -1,10 +1,10 @@
 use Rattle.std.proofs.Common.{refl, rules}
-use Rattle.weld.proofs.Walks.{agree-x, agree-y, agree-z}
+use Rattle.weld.proofs.Walks.{agree_x, agree_y, agree_z}
 use Rattle.weld.proofs.find.agrees.Statement.{statement}
 use Rattle.weld.proofs.find.agrees.Tie as tie
 use Rattle.weld.proofs.find.agrees.Reads as reads
 use Rattle.weld.proofs.find.agrees.Lts as lts
-use Rattle.weld.proofs.find.gap.Reads as gap-reads
+use Rattle.weld.proofs.find.gap.Reads as gap_reads
 
 -- src/find.rt:35:16
 mul-result : tie.Need-overflow-mul-result
@@ -20,7 +20,7 @@ cast-result c = search rules
 
 -- src/find.rt:35:9
 returns : tie.Need-returns
-returns c = let s = c.before.before.before.before in agree-x s.args.height s.args.work.now s.args.at s.args.v s.args.c (search rules) refl
+returns c = let s = c.before.before.before.before in agree_x s.args.height s.args.work.now s.args.at s.args.v s.args.c (search rules) refl
 
 -- src/find.rt:38:25
 add-gap : tie.Need-overflow-add-gap
@@ -44,7 +44,7 @@ gap-requires c κs = search rules
 
 -- src/find.rt:38:9
 returns-2 : tie.Need-returns-2
-returns-2 c = let s = c.before.before.before.before.before.before in agree-y s.args.height s.args.work.now s.args.at s.args.v s.args.c (search rules) c.gap.ensures refl
+returns-2 c = let s = c.before.before.before.before.before.before in agree_y s.args.height s.args.work.now s.args.at s.args.v s.args.c (search rules) c.gap.ensures refl
 
 -- src/find.rt:40:10
 add-result : tie.Need-overflow-add-result
@@ -64,7 +64,7 @@ cast-result-2 c = search rules
 
 -- src/find.rt:30:1
 returns-3 : tie.Need-returns-3
-returns-3 c = let s = c.before.before.before.before.before in agree-z s.args.height s.args.work.now s.args.at s.args.v s.args.c (search rules) (search rules) refl
+returns-3 c = let s = c.before.before.before.before.before in agree_z s.args.height s.args.work.now s.args.at s.args.v s.args.c (search rules) (search rules) refl
 
 pub agrees-spec : {M : Type 1} → statement M
 agrees-spec =

@@ -1,8 +1,8 @@
 use Rattle.std.proofs.Common.{◌≡◌, ◌+◌, ◌-◌, ◌≤◌, length, sym, refl, ◌∙◌, arith, rules}
 use Rattle.mem.specs.Slice.{view}
 use Rattle.rules.specs.declared.Found.TheVariants.{Nothing}
-use Rattle.records.specs.Layout.{vertexSize, vertexIn, verticesAt}
-use Rattle.weld.proofs.Walks.{Agreed, agreed-none, agreed-more, Walk, walk_first, walk_none, step_fits, step-link, step_less, step-on, step-found}
+use Rattle.records.specs.Layout.{vertex_size, vertex_in, vertices_at}
+use Rattle.weld.proofs.Walks.{Agreed, agreed_none, agreed_more, Walk, walk_first, walk_none, step_fits, step_link, step_less, step_on, step_found}
 use Rattle.weld.proofs.find.find_vertex.Statement.{statement}
 use Rattle.weld.proofs.find.find_vertex.Tie as tie
 use Rattle.weld.proofs.find.find_vertex.Reads as reads
@@ -12,13 +12,13 @@ use Rattle.words.proofs.places.link_at.Reads as link-at-reads
 use Rattle.weld.proofs.hash.compute_vertex_hash.Reads as compute-vertex-hash-reads
 
 abbrev invariant-loop : tie.invariant-loop
-invariant-loop work t nv v height found link k at c₀ c = Agreed height (vertexIn (view work at vertexSize)) v c × (at + vertexSize ≤ length work)
+invariant-loop work t nv v height found link k at c₀ c = Agreed height (vertex_in (view work at vertex_size)) v c × (at + vertex_size ≤ length work)
 
 abbrev decreases-loop : tie.decreases-loop
 decreases-loop work t nv v height found link k at c₀ c = 3 - c
 
 abbrev invariant-search : tie.invariant-search
-invariant-search work t nv v height found₀ link₀ found link = Walk height (verticesAt work t.vertices nv) v nv link × (found ≡ Nothing)
+invariant-search work t nv v height found₀ link₀ found link = Walk height (vertices_at work t.vertices nv) v nv link × (found ≡ Nothing)
 
 abbrev decreases-search : tie.decreases-search
 decreases-search work t nv v height found₀ link₀ found link = link
@@ -58,17 +58,17 @@ add_at c = let s = c.before.before.before.before.before.before.before in record 
 
 -- src/find.rt:62:30
 add-link-at-2 : tie.Need-overflow-add-link-at-2 invariant-loop decreases-loop invariant-search decreases-search
-add-link-at-2 c = let s = c.before.before.before.before.before.before.before.before in record { fits = omega (arith, step-link s.args.work.now s.args.t s.args.nv s.requires s.args.height s.args.v c.before.before.before.search.invariant.0 c.before.before.search-test.true) }
+add-link-at-2 c = let s = c.before.before.before.before.before.before.before.before in record { fits = omega (arith, step_link s.args.work.now s.args.t s.args.nv s.requires s.args.height s.args.v c.before.before.before.search.invariant.0 c.before.before.search-test.true) }
 
 -- src/find.rt:62:9
 link-at-requires-2 : tie.Need-link-at-requires-2 invariant-loop decreases-loop invariant-search decreases-search
-link-at-requires-2 c κs = let s = c.before.before.before.before.before.before.before.before in step-link s.args.work.now s.args.t s.args.nv s.requires s.args.height s.args.v c.before.before.before.search.invariant.0 c.before.before.search-test.true
+link-at-requires-2 c κs = let s = c.before.before.before.before.before.before.before.before in step_link s.args.work.now s.args.t s.args.nv s.requires s.args.height s.args.v c.before.before.before.search.invariant.0 c.before.before.search-test.true
 
 -- src/find.rt:64:9
 loop-holds : tie.Need-loop-init invariant-loop decreases-loop invariant-search decreases-search
 loop-holds c =
     let s = c.before.before.before.before.before.before.before.before.before in
-    (agreed-none _ _ _, step_fits s.args.work.now s.args.t s.args.nv s.requires s.args.height s.args.v c.before.before.before.before.search.invariant.0 c.before.before.before.search-test.true)
+    (agreed_none _ _ _, step_fits s.args.work.now s.args.t s.args.nv s.requires s.args.height s.args.v c.before.before.before.before.search.invariant.0 c.before.before.before.search-test.true)
 
 -- src/find.rt:65:16
 agrees-requires : tie.Need-agrees-requires invariant-loop decreases-loop invariant-search decreases-search
@@ -84,11 +84,11 @@ loop-less c = search rules
 
 -- src/find.rt:64:9
 loop-again : tie.Need-loop-preserved invariant-loop decreases-loop invariant-search decreases-search
-loop-again c = (agreed-more _ _ _ c.before.before.before.loop.invariant.0 c.before.before.loop-test.true (sym c.before.agrees.ensures ∙ c.if1.true), c.before.before.before.loop.invariant.1)
+loop-again c = (agreed_more _ _ _ c.before.before.before.loop.invariant.0 c.before.before.loop-test.true (sym c.before.agrees.ensures ∙ c.if1.true), c.before.before.before.loop.invariant.1)
 
 -- src/find.rt:59:5
-search-less : tie.Need-search-smaller invariant-loop decreases-loop invariant-search decreases-search
-search-less c =
+search_less : tie.Need-search-smaller invariant-loop decreases-loop invariant-search decreases-search
+search_less c =
     let s = c.before.before.before.before.before.before.before.before.before.before.before.before.before in
     step_less s.args.work.now s.args.t s.args.nv s.requires s.args.height s.args.v c.before.before.before.before.before.before.before.before.search.invariant.0 c.before.before.before.before.before.before.before.search-test.true c.before.before.before.before.link-at2.ensures
 
@@ -96,7 +96,7 @@ search-less c =
 search-again : tie.Need-search-preserved invariant-loop decreases-loop invariant-search decreases-search
 search-again c =
     let s = c.before.before.before.before.before.before.before.before.before.before.before.before.before in (
-      step-on s.args.work.now s.args.t s.args.nv s.requires s.args.height s.args.v c.before.before.before.before.before.before.before.before.search.invariant.0 c.before.before.before.before.before.before.before.search-test.true
+      step_on s.args.work.now s.args.t s.args.nv s.requires s.args.height s.args.v c.before.before.before.before.before.before.before.before.search.invariant.0 c.before.before.before.before.before.before.before.search-test.true
           c.before.before.before.loop.invariant.0 c.before.before.before.before.link-at2.ensures c.before.before.loop-test.true (sym c.before.agrees.ensures ∙ c.if1.false),
       c.before.before.before.before.before.before.before.before.search.invariant.1,
     )
@@ -105,13 +105,13 @@ search-again c =
 returns : tie.Need-returns invariant-loop decreases-loop invariant-search decreases-search
 returns c =
     let s = c.before.before.before.before.before.before in
-    c.before.search.invariant.1 ∙ walk_none s.args.height (verticesAt s.args.work.now s.args.t.vertices s.args.nv) s.args.v s.args.nv c.before.search.invariant.0 c.search-test.false
+    c.before.search.invariant.1 ∙ walk_none s.args.height (vertices_at s.args.work.now s.args.t.vertices s.args.nv) s.args.v s.args.nv c.before.search.invariant.0 c.search-test.false
 
 -- src/find.rt:53:1
 returns-2 : tie.Need-returns-2 invariant-loop decreases-loop invariant-search decreases-search
 returns-2 c =
     let s = c.before.before.before.before.before.before.before.before.before.before.before in
-    step-found s.args.work.now s.args.t s.args.nv s.requires s.args.height s.args.v c.before.before.before.before.before.before.search.invariant.0 c.before.before.before.before.before.search-test.true c.before.loop.invariant.0 c.loop-test.false
+    step_found s.args.work.now s.args.t s.args.nv s.requires s.args.height s.args.v c.before.before.before.before.before.before.search.invariant.0 c.before.before.before.before.before.search-test.true c.before.loop.invariant.0 c.loop-test.false
 
 pub find-vertex-spec : {M : Type 1} → statement M
 find-vertex-spec =
@@ -136,7 +136,7 @@ find-vertex-spec =
     add-c
     loop-less
     loop-again
-    search-less
+    search_less
     search-again
     returns
     returns-2)

@@ -1,4 +1,4 @@
-use Rattle.weld.proofs.Walks.{hash-made}
+use Rattle.weld.proofs.Walks.{hash_made}
 use Rattle.std.proofs.Common.{rules}
 use Rattle.weld.proofs.hash.compute_vertex_hash.Statement.{statement}
 use Rattle.weld.proofs.hash.compute_vertex_hash.Tie as tie
@@ -21,7 +21,7 @@ wrapping-add-u32-requires c κs = search rules
 
 -- src/hash.rt:15:1
 returns : tie.Need-returns
-returns c = hash-made _ _ c.before.before.wrapping-mul.ensures c.before.wrapping-mul2.ensures c.wrapping-add-u32.ensures
+returns c = hash_made _ _ c.before.before.wrapping-mul.ensures c.before.wrapping-mul2.ensures c.wrapping-add-u32.ensures
 
 pub compute-vertex-hash-spec : {M : Type 1} → statement M
 compute-vertex-hash-spec =

@@ -1,4 +1,4 @@
-use Rattle.weld.proofs.Walks.{product-below}
+use Rattle.weld.proofs.Walks.{product_below}
 use Rattle.std.proofs.Common.{rules}
 use Rattle.weld.proofs.hash.wrapping_mul.Statement.{statement}
 use Rattle.weld.proofs.hash.wrapping_mul.Tie as tie
@@ -7,7 +7,7 @@ use Rattle.weld.proofs.hash.wrapping_mul.Lts as lts
 
 -- src/hash.rt:11:6
 mul-result : tie.Need-overflow-mul-result
-mul-result c = record { fits = product-below 32 (search rules) (search rules) }
+mul-result c = record { fits = product_below 32 (search rules) (search rules) }
 
 -- src/hash.rt:11:5
 cast-result : tie.Need-overflow-cast-result

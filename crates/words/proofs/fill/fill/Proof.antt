@@ -2,7 +2,7 @@
 use mathlib.Core.Path.{refl, ap, ◌∙◌}
 use Prim.Native.Nat.{◌-◌}
 use Rattle.mem.specs.Slice.{splice}
-use Rattle.mem.specs.Tab.{Filled, filled_none, filled_more, filled-all, tab-const}
+use Rattle.mem.specs.Tab.{Filled, filled_none, filled_more, filled_all, tab_const}
 use borrow.Author.Rules.{rules}
 use Rattle.words.proofs.fill.fill.Statement.{statement}
 use Rattle.words.proofs.fill.fill.Tie as tie
@@ -51,7 +51,7 @@ same_length c = search rules
 returns : tie.Need-returns invariant-loop decreases-loop
 returns c =
     let s = c.before.before in
-    filled-all c.before.loop.invariant c.loop-test.false ∙ ap (splice s.args.work.now s.args.at) (tab-const s.args.n s.args.x)
+    filled_all c.before.loop.invariant c.loop-test.false ∙ ap (splice s.args.work.now s.args.at) (tab_const s.args.n s.args.x)
 
 pub fill_spec : {M : Type 1} → statement M
 fill_spec =

@@ -4,7 +4,7 @@ use Prim.Native.Nat.{◌+◌, ◌-◌}
 use native.Mathlib.Omega.{arith}
 use lib.ListN.{get_or}
 use Rattle.mem.specs.Slice.{splice}
-use Rattle.mem.specs.Tab.{Filled, filled_none, filled_more, filled-all, filled-above, tab-view}
+use Rattle.mem.specs.Tab.{Filled, filled_none, filled_more, filled_all, filled_above, tab_view}
 use borrow.Author.Rules.{rules}
 use Rattle.words.proofs.moves.move_down.Statement.{statement}
 use Rattle.words.proofs.moves.move_down.Tie as tie
@@ -51,7 +51,7 @@ loop-less c = search rules
 
 -- src/moves.rt:13:5
 loop-again : tie.Need-loop-preserved invariant-loop decreases-loop
-loop-again c = filled_more c.before.before.loop.invariant _ _ (omega arith) (filled-above c.before.before.loop.invariant _ 0 (omega arith)) c.before.loop-test.true
+loop-again c = filled_more c.before.before.loop.invariant _ _ (omega arith) (filled_above c.before.before.loop.invariant _ 0 (omega arith)) c.before.loop-test.true
 
 -- src/moves.rt:8:1
 same_length : tie.Need-same-length invariant-loop decreases-loop
@@ -59,7 +59,7 @@ same_length c = search rules
 
 -- src/moves.rt:8:1
 returns : tie.Need-returns invariant-loop decreases-loop
-returns c = let s = c.before.before in filled-all c.before.loop.invariant (search rules) ∙ ap (splice s.args.part.now 0) (tab-view s.args.part.now s.args.from s.args.n 0 (search rules))
+returns c = let s = c.before.before in filled_all c.before.loop.invariant (search rules) ∙ ap (splice s.args.part.now 0) (tab_view s.args.part.now s.args.from s.args.n 0 (search rules))
 
 pub move_down_spec : {M : Type 1} → statement M
 move_down_spec =
