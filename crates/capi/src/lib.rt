@@ -1,5 +1,7 @@
 // The way in for C, C++, Rust and Python: numbers and slices. Each entry has a version in its name; include/mittencrest.h declares
 // them for C.
+#![tactic(auto)]
+
 mod header; // the header and the answer as numbers
 mod measures; // the distance, and units
 mod build; // the build

@@ -1,4 +1,6 @@
 // Checks the printed mesh on standard input, and writes the verdict to standard output.
+#![tactic(auto)]
+
 use libc::{STDIN_FILENO, STDOUT_FILENO};
 
 fn main() {

@@ -1,5 +1,7 @@
 // Request 7, the checker of meshes from elsewhere, on slices. `check::soundness_of` gives refusals 40 to 42, which come first
 // in every request that takes a mesh; `check::check_mesh` is the checker; the other modules are their steps.
+#![tactic(auto)]
+
 mod buffers; // 40: counts and limits
 mod unused; // words past the last corner
 mod ends; // the words of one polygon

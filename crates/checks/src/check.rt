@@ -11,7 +11,7 @@ use crate::vertices::{first_bad_flag, first_high};
 use rules::{Found, Refusal};
 
 // What the checks say of a job: it may be built, or one of replies 1 to 6.
-#[derive(Drop)]
+#[derive(Clone, Copy)]
 pub enum Verdict {
     Passed,
     Refused(Refusal),

@@ -13,7 +13,7 @@ pub const JOB_STRIDE: usize = 4;
 pub const MOST_CONTOURS: usize = 65535;
 
 // Which sum over the contours is meant: all vertices, V or T.
-#[derive(Drop)]
+#[derive(Clone, Copy)]
 enum Part {
     All,
     Points,

@@ -12,7 +12,7 @@ use sheet::heading::Heading;
 const MESH_LINE: u64 = 5;
 
 // How many vertices and polygons stand in the lists, and the claimed total; or the line at which the reading ended.
-#[derive(Drop)]
+#[derive(Clone, Copy)]
 pub enum ClaimRead {
     Claimed(usize, usize, i64),
     Unread(u64),

@@ -14,7 +14,7 @@ const COUNT_MOST: u64 = 8192;
 const TOTAL_MOST: u64 = 9223372036854775807;
 
 // The counts of vertices and polygons, and the claimed total; or no such line.
-#[derive(Drop)]
+#[derive(Clone, Copy)]
 pub enum MeshLine {
     Counted(usize, usize, i64),
     Missing,

@@ -1,5 +1,7 @@
 // A printed mesh, on slices: the bytes of a mesh in, the checker's verdict on it as a text out. `check_sheet` is the one
 // function for users; the modules are its steps.
+#![tactic(auto)]
+
 mod counts; // the mesh line
 mod progress; // how far the reading is
 mod places; // the vertices are read

@@ -3,7 +3,7 @@ ghost use Rattle.std.specs.Prelude.{◌≡◌};
 ghost use Rattle.checksheet.specs.Reading.{stopped_at};
 
 // The line and the place that come next; or `line` is a line that is malformed, misplaced or missing.
-#[derive(Drop)]
+#[derive(Clone, Copy)]
 pub struct Progress {
     pub good: bool,
     pub line: u64,

@@ -17,7 +17,7 @@ const CODE_MOST: u64 = 255;
 const LINK_MOST: u64 = 4294967295;
 
 // How many corners a `p` line has, if it is good.
-#[derive(Drop)]
+#[derive(Clone, Copy)]
 pub struct Corners {
     pub good: bool,
     pub count: usize,

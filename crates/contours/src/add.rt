@@ -18,7 +18,7 @@ use words::fill::fill;
 const WELD_HEIGHT: u16 = 2;
 
 // A contour was added, and the mesh has so many vertices and polygons; or it has no ear to cut, after so many triangles.
-#[derive(Drop)]
+#[derive(Clone, Copy)]
 pub enum Added {
     To(usize, usize),
     NoEar(usize),

@@ -14,7 +14,7 @@ const LEAST_VERTICES: usize = 3;
 
 // All contours were added, and the mesh has so many vertices and polygons; or this one has no ear to cut, after so many
 // triangles.
-#[derive(Drop)]
+#[derive(Clone, Copy)]
 pub enum Gathered {
     Mesh(usize, usize),
     NoEar(usize, usize),

@@ -1,6 +1,6 @@
 // Where the mesh is built: the weld's tables have room for v vertices, t polygons have room at `polygons`, and behind them
 // is scratch for a contour: v words for the numbers that its vertices take, and behind them 6 v words to cut it in.
-#[derive(Drop)]
+#[derive(Clone, Copy)]
 pub struct Ground {
     pub buckets: usize,
     pub vertices: usize,
@@ -12,7 +12,7 @@ pub struct Ground {
 }
 
 // A contour of a job: the n vertices from `first` on, its region and its area code.
-#[derive(Drop)]
+#[derive(Clone, Copy)]
 pub struct Contour {
     pub first: usize,
     pub n: usize,

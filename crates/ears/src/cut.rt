@@ -18,7 +18,7 @@ use rules::{Ear, Kind};
 use words::fill::fill;
 
 // The triangles are there, or no ear was left to cut; with how many triangles were cut.
-#[derive(Drop)]
+#[derive(Clone, Copy)]
 pub enum Triangulation {
     Done(usize),
     Stuck(usize),

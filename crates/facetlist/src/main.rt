@@ -1,4 +1,6 @@
 // Reads the binary STL on standard input, and writes its facets as a text to standard output; or the refusal's line.
+#![tactic(auto)]
+
 use libc::{STDIN_FILENO, STDOUT_FILENO};
 
 fn main() {

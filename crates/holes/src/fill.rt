@@ -118,7 +118,7 @@ pub fn mesh_hole(
 }
 
 // A hole was filled with so many polygons, or it has no ear to cut.
-#[derive(Drop)]
+#[derive(Clone, Copy)]
 pub enum Filled {
     Polygons(usize),
     NoEars,

@@ -69,7 +69,7 @@ fn push_neighbours(work: &mut [u32], at: usize, p: Poly, rem: u32) -> usize
 }
 
 // What was met in the polygons: whether each of them holds the vertex at most once, and how many words were written.
-#[derive(Drop)]
+#[derive(Clone, Copy)]
 struct Met {
     once: bool,
     n: usize,

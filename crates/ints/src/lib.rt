@@ -1,1 +1,2 @@
 // Laws of exact arithmetic on the integers, in specs/. There is no code here.
+#![tactic(auto)]

@@ -1,4 +1,6 @@
 // Meshes the job sheet on standard input, and writes the text to standard output.
+#![tactic(auto)]
+
 use libc::{STDIN_FILENO, STDOUT_FILENO};
 
 fn main() {

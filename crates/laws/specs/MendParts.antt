@@ -35,11 +35,11 @@ module _ {A : Type 0} where
   unfolding without
   in_without l i = in_cut i (i + 1) l (omega arith)
 
-  in_trans : {j k l : List A} → InOrder j k → InOrder k l → InOrder j l
-  in_trans a ends = a
-  in_trans (keeps a) (keeps b) = keeps (in_trans a b)
-  in_trans (skips a) (keeps b) = skips (in_trans a b)
-  in_trans a (skips b) = skips (in_trans a b)
+  in_trans : {k l : List A} → InOrder k l → (j : List A) → InOrder j k → InOrder j l
+  in_trans ends j a = a
+  in_trans (keeps {k = k} b) j (keeps {k = j'} a) = keeps (in_trans b j' a)
+  in_trans (keeps b) j (skips a) = skips (in_trans b j a)
+  in_trans (skips b) j a = skips (in_trans b j a)
 
 -- ---- a mending of ps
 record Parted (ps : List Traced) (m : Mending) : Type 0 where
@@ -60,7 +60,7 @@ module _ (ps : List Traced) where
         let low : at < length ks = next_below i (length ks) (omega arith) in
         let parts : count k (without ks at) + count k (gone ∷ []) ≡ count k ks = rw same at (count_without k ks at 0 low) in
         omega (arith, p.together k, count_append k m.lost (gone ∷ []));
-    order = let us = map unflagged m.points in rw (map_lost i m unflagged (λ a b. refl)) (in_trans (in_without us (next i (length us))) p.order);
+    order = let us = map unflagged m.points in rw (map_lost i m unflagged (λ a b. refl)) (in_trans p.order (without us (next i (length us))) (in_without us (next i (length us))));
   }
 
   parted_step : (m n : Mending) → Step m n → Parted ps m → Parted ps n

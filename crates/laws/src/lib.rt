@@ -1,1 +1,2 @@
 // Theorems about the rules, in specs/. There is no code here.
+#![tactic(auto)]

@@ -1,4 +1,6 @@
 // Text in lines and cells: read, and printed. What a text is, is said in the rules' `Lines`.
+#![tactic(auto)]
+
 pub mod scan; // where a byte stands, and whether two texts are the same
 pub mod decimal; // a cell read as a decimal
 pub mod whole; // a cell read as a whole number, which may have a sign

@@ -6,7 +6,7 @@ use crate::numbers::read_numbers;
 use crate::scan::find;
 
 // A line's numbers, and the place behind its LF; nothing is read of a malformed line.
-#[derive(Drop)]
+#[derive(Clone, Copy)]
 pub struct LineRead {
     pub good: bool,
     pub next: usize,

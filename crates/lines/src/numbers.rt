@@ -8,7 +8,7 @@ use crate::scan::{find, is_same_text};
 use rules::Decimal;
 
 // The numbers of a line, at most four: 0 where there is none, and everywhere if the line is malformed.
-#[derive(Drop)]
+#[derive(Clone, Copy)]
 pub struct Four {
     pub good: bool,
     pub a: u64,

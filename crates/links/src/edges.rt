@@ -11,7 +11,7 @@ use words::places::link_at;
 
 // Where the words of the records stand: for each vertex the newest record that starts there, the records, and for each
 // record the next older one of its vertex.
-#[derive(Drop)]
+#[derive(Clone, Copy)]
 pub struct EdgeTables {
     pub firsts: usize,
     pub edges: usize,

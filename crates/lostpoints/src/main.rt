@@ -1,4 +1,6 @@
 // Writes a line to standard output for each point that the job sheet on standard input loses where its contours are mended.
+#![tactic(auto)]
+
 use libc::{STDIN_FILENO, STDOUT_FILENO};
 
 fn main() {

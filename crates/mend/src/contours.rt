@@ -6,7 +6,7 @@ use crate::walk::walk;
 use words::places::link_at;
 
 // How many points are kept, and how many are lost.
-#[derive(Drop)]
+#[derive(Clone, Copy)]
 pub struct Tally {
     pub kept: usize,
     pub lost: usize,

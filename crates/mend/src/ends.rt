@@ -5,7 +5,7 @@ use crate::lose::{lose, same_place};
 use words::places::link_at;
 
 // What is left: n numbers of the stack from `lo` on; and how many points are lost.
-#[derive(Drop)]
+#[derive(Clone, Copy)]
 pub struct Span {
     pub lo: usize,
     pub n: usize,
@@ -13,7 +13,7 @@ pub struct Span {
 }
 
 // Which ends meet: the last but one and the first, the last and the first, the last and the second, or none.
-#[derive(Drop)]
+#[derive(Clone, Copy)]
 enum Ends {
     Near,
     Last,

@@ -5,14 +5,14 @@ use crate::lose::{lose, same_place};
 use words::places::link_at;
 
 // How high the stack is, and how many points are lost.
-#[derive(Drop)]
+#[derive(Clone, Copy)]
 pub struct Walk {
     pub top: usize,
     pub lost: usize,
 }
 
 // Where the next point is met again: at the stack's top, at the second place of it, or at neither.
-#[derive(Drop)]
+#[derive(Clone, Copy)]
 enum Meets {
     Top,
     Second,

@@ -1,4 +1,6 @@
 // Mends the contours of the job sheet on standard input, and writes the sheet to standard output.
+#![tactic(auto)]
+
 use libc::{STDIN_FILENO, STDOUT_FILENO};
 
 fn main() {

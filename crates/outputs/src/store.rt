@@ -6,7 +6,7 @@ use crate::tags::{clear_flags, copy_codes, copy_regions};
 use crate::vertices::copy_vertices;
 
 // Where the mesh stands in the work buffer: nv vertices at vo, np polygons at o, and their links at lo.
-#[derive(Drop)]
+#[derive(Clone, Copy)]
 pub struct Places {
     pub vo: usize,
     pub nv: usize,

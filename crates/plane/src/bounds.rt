@@ -6,7 +6,7 @@ use crate::segment::vequal;
 use rules::Point;
 
 // The least and the greatest x, and the least and the greatest z.
-#[derive(Drop)]
+#[derive(Clone, Copy)]
 pub struct Bounds {
     pub x0: u16,
     pub x1: u16,

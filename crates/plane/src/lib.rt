@@ -1,5 +1,7 @@
 // Layer 1: places in a ring, predicates on points, boxes of segments, lengths and areas, the distance, and the unit. Each
 // function's result is the rules' definition of its arguments, or for boxes the crate's.
+#![tactic(auto)]
+
 pub mod ring; // the place after one and the place before it
 pub mod turn; // D, and which side of a line a point is on
 pub mod segment; // two segments cross or touch

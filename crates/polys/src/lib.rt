@@ -1,4 +1,6 @@
 // R4: the polygons of one contour, or of one hole, are merged.
+#![tactic(auto)]
+
 pub mod side; // the side that two polygons share
 pub mod value; // whether two polygons can be joined, and how good it would be
 pub mod best; // the best pair, from all pairs

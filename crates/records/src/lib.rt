@@ -1,4 +1,6 @@
 // The records of the work buffer: how many words each has, and how one is read and written.
+#![tactic(auto)]
+
 pub mod vertex; // a vertex with its mark
 pub mod polygon; // a polygon, and a list of them
 pub mod corner; // a polygon's corners, read in place

@@ -31,7 +31,7 @@ const SPARE_AT: usize = 15;
 pub const NONE: u32 = 65535;
 
 // A polygon by value: the first n of its corners count, the others are 65,535.
-#[derive(Drop)]
+#[derive(Clone, Copy)]
 pub struct Poly {
     pub corners: [u32; 12],
     pub n: usize,

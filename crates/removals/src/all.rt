@@ -12,7 +12,7 @@ use holes::test::can_remove_vertex;
 use records::vertex::{MARK_AT, VERTEX_SIZE};
 
 // So many vertices and polygons are left; or the hole of the vertex has no ear to cut.
-#[derive(Drop)]
+#[derive(Clone, Copy)]
 pub enum Removals {
     Left(Counts),
     Stuck(usize),

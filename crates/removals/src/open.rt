@@ -12,7 +12,7 @@ use trails::sides::collect_sides;
 use trails::walk::walk_sides;
 
 // How many polygons are left, and how many points the hole has.
-#[derive(Drop)]
+#[derive(Clone, Copy)]
 pub struct Hole {
     pub left: usize,
     pub points: usize,

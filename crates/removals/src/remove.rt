@@ -18,7 +18,7 @@ use words::fill::fill;
 const WALK_ROOM: usize = 13;
 
 // The vertex has gone, and there are so many polygons; or the hole has no ear to cut.
-#[derive(Drop)]
+#[derive(Clone, Copy)]
 pub enum Removed {
     Gone(usize),
     NoEars,

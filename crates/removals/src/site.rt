@@ -1,6 +1,6 @@
 // Where a mesh stands in the work buffer: v vertices have room at `vertices`, t polygons at `polygons`, and behind them
 // is scratch for the removal of a vertex.
-#[derive(Drop)]
+#[derive(Clone, Copy)]
 pub struct Site {
     pub vertices: usize,
     pub v: usize,
@@ -10,7 +10,7 @@ pub struct Site {
 }
 
 // How many vertices and polygons stand there.
-#[derive(Drop)]
+#[derive(Clone, Copy)]
 pub struct Counts {
     pub vertices: usize,
     pub polygons: usize,

@@ -1,5 +1,7 @@
 // Runs recorded jobs again, and writes the meshes. Their answers, which the file `stdout` has, were given by the Rust;
 // docs/COMPARISON.md says how they were made. A file of data/ has sheets, each with an empty line behind it.
+#![tactic(auto)]
+
 ghost use Rattle.std.specs.Prelude.{◌≡◌, ◌<◌, length};
 ghost use Rattle.replay.specs.Sheets.{is_gap, EndsAt};
 

@@ -1,14 +1,15 @@
 // The by-value types that the rules and the code share. The rules themselves are in specs/.
+#![tactic(auto)]
 
 // A place on the plane.
-#[derive(Drop)]
+#[derive(Clone, Copy)]
 pub struct Point {
     pub x: u16,
     pub z: u16,
 }
 
 // A vertex of a contour or of the mesh.
-#[derive(Drop)]
+#[derive(Clone, Copy)]
 pub struct Vertex {
     pub x: u16,
     pub y: u16,
@@ -19,21 +20,21 @@ pub struct Vertex {
 pub const VERTEX_STRIDE: usize = 3;
 
 // The answer of a search: a place, or none.
-#[derive(Drop)]
+#[derive(Clone, Copy)]
 pub enum Found {
     At(usize),
     Nothing,
 }
 
 // R1: which of the two diagonals is meant.
-#[derive(Drop)]
+#[derive(Clone, Copy)]
 pub enum Kind {
     Strict,
     Loose,
 }
 
 // R2: the best ear so far, `at` being the i of i, i+1, i+2; none as long as `any` is false.
-#[derive(Drop)]
+#[derive(Clone, Copy)]
 pub struct Ear {
     pub any: bool,
     pub key: u32,
@@ -41,14 +42,14 @@ pub struct Ear {
 }
 
 // R4: the side of a and the side of b that two polygons share, or none.
-#[derive(Drop)]
+#[derive(Clone, Copy)]
 pub enum Shared {
     Sides(usize, usize),
     NoSide,
 }
 
 // R4: polygons a and b, to be joined at side ea of a and eb of b, of this squared length; length 0 says that they can't be.
-#[derive(Drop)]
+#[derive(Clone, Copy)]
 pub struct Pair {
     pub length: u32,
     pub a: usize,
@@ -58,7 +59,7 @@ pub struct Pair {
 }
 
 // R5: a side that does not touch the vertex that goes, with its polygon's region and area code.
-#[derive(Drop)]
+#[derive(Clone, Copy)]
 pub struct Side {
     pub start: u32,
     pub end: u32,
@@ -67,7 +68,7 @@ pub struct Side {
 }
 
 // R5: a point of the chain, with the region and area code of the side that brought it.
-#[derive(Drop)]
+#[derive(Clone, Copy)]
 pub struct ChainPoint {
     pub vertex: u32,
     pub region: u32,
@@ -76,7 +77,7 @@ pub struct ChainPoint {
 
 // R6: the record of side `side` of polygon `poly`, which runs from vertex `low` to vertex `high`. It is joined to side
 // `at` of polygon `other`; to none as long as `other` is `poly`.
-#[derive(Drop)]
+#[derive(Clone, Copy)]
 pub struct Edge {
     pub low: u32,
     pub high: u32,
@@ -86,7 +87,7 @@ pub struct Edge {
     pub at: u32,
 }
 
-#[derive(Drop)]
+#[derive(Clone, Copy)]
 pub struct Vec3 {
     pub x: f32,
     pub y: f32,
@@ -94,14 +95,14 @@ pub struct Vec3 {
 }
 
 // A bounding box's two corners.
-#[derive(Drop)]
+#[derive(Clone, Copy)]
 pub struct Aabb3d {
     pub min: Vec3,
     pub max: Vec3,
 }
 
 // "The cell size is a float tagged as millimetres or as inches".
-#[derive(Drop)]
+#[derive(Clone, Copy)]
 pub enum CellSize {
     Millimetres(f32),
     Inches(f32),
@@ -109,7 +110,7 @@ pub enum CellSize {
 
 // "Each mesh carries a header: the bounding box's two corners, the cell size with its unit, the cell height in the same
 // unit and the largest edge error." The cell height has no tag of its own: its unit is the cell size's.
-#[derive(Drop)]
+#[derive(Clone, Copy)]
 pub struct Header {
     pub aabb: Aabb3d,
     pub cell_size: CellSize,
@@ -119,7 +120,7 @@ pub struct Header {
 
 // Replies 1 to 8, in the order of their numbers. What each carries is its second number; reply 2's is 0. 64 bits hold the
 // number of any vertex of any slice, and any V.
-#[derive(Drop)]
+#[derive(Clone, Copy)]
 pub enum Refusal {
     BadCornerLimit(u64),
     CountsDisagree,
@@ -132,28 +133,28 @@ pub enum Refusal {
 }
 
 // Reply 0, with its second and its third number, or one of the others.
-#[derive(Drop)]
+#[derive(Clone, Copy)]
 pub enum Reply {
     Built(u64, u64),
     Refused(Refusal),
 }
 
 // What a build answers: its reply, and the header as it was given.
-#[derive(Drop)]
+#[derive(Clone, Copy)]
 pub struct Answer {
     pub reply: Reply,
     pub header: Header,
 }
 
 // A cell of a sheet that is read as a decimal: the number, or none.
-#[derive(Drop)]
+#[derive(Clone, Copy)]
 pub enum Decimal {
     Value(u64),
     Malformed,
 }
 
 // What a mending answers: how many points were lost and how many are kept; or one of 80, 2, 82 and 81.
-#[derive(Drop)]
+#[derive(Clone, Copy)]
 pub enum MendReply {
     Mended(u64, u64),
     NotWhole,
@@ -164,7 +165,7 @@ pub enum MendReply {
 
 // What is wrong with a mesh that is handed in, before anything else is asked of it: 40, or 41 or 42 with the first polygon at
 // fault.
-#[derive(Drop)]
+#[derive(Clone, Copy)]
 pub enum Fault {
     BadBuffers,
     BadCorners(u64),
@@ -172,14 +173,14 @@ pub enum Fault {
 }
 
 // Whether a mesh that is handed in is sound: refusals 40 to 42.
-#[derive(Drop)]
+#[derive(Clone, Copy)]
 pub enum Soundness {
     Sound,
     Broken(Fault),
 }
 
 // What the checker says of a mesh: it is accepted, or the first of refusals 40 to 44, in the order of their numbers.
-#[derive(Drop)]
+#[derive(Clone, Copy)]
 pub enum Verdict {
     Accepted,
     Unsound(Fault),
@@ -188,7 +189,7 @@ pub enum Verdict {
 }
 
 // A cell that is read as a whole number with its sign: the number, or none.
-#[derive(Drop)]
+#[derive(Clone, Copy)]
 pub enum Signed {
     Whole(i64),
     NotWhole,
@@ -196,7 +197,7 @@ pub enum Signed {
 
 // What writing a binary STL answers: how many facets were written; or what is wrong with the mesh (40 to 42); or 70, a cell
 // size or height that is no length; or 71, too few bytes lent.
-#[derive(Drop)]
+#[derive(Clone, Copy)]
 pub enum StlReply {
     Written(u64),
     BadMesh(Fault),
@@ -206,7 +207,7 @@ pub enum StlReply {
 
 // What reading a binary STL answers: how many facets were taken; or 72, a length that doesn't fit the count; or 73, with the
 // first byte that is not zero where zero is due; or 71, too few words lent.
-#[derive(Drop)]
+#[derive(Clone, Copy)]
 pub enum UnstlReply {
     Taken(u64),
     BadLength,

@@ -22,7 +22,7 @@ const FIRST_LINE: u64 = 5;
 
 // How far the reading is: the line and the place that come next, the vertices that the last contour still needs, and how
 // many contours and vertices there are. With a refusal, `line` is its line; otherwise `refusal` is 0.
-#[derive(Drop)]
+#[derive(Clone, Copy)]
 pub struct Progress {
     pub refusal: u64,
     pub line: u64,

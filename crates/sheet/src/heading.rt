@@ -14,7 +14,7 @@ pub const NUMBER_MOST: u64 = 65535;
 const CELL_MOST: u64 = 16777216;
 
 // What the heading says, and the place behind it.
-#[derive(Drop)]
+#[derive(Clone, Copy)]
 pub struct Heading {
     pub inches: bool,
     pub size: u32,
@@ -27,14 +27,14 @@ pub struct Heading {
 }
 
 // A heading, or a refusal: its number and its line.
-#[derive(Drop)]
+#[derive(Clone, Copy)]
 pub enum HeadingRead {
     Headed(Heading),
     Refused(u64, u64),
 }
 
 // Whether the unit is inches, and the place behind its line; or no such line.
-#[derive(Drop)]
+#[derive(Clone, Copy)]
 enum UnitRead {
     Known(bool, usize),
     Missing,

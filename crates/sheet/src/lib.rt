@@ -1,5 +1,7 @@
 // The job sheet, on slices: the bytes of a sheet in, the text that is printed for it out. `mesh_sheet` is the one function
 // for users; the modules are its steps, and those that are public serve the mended sheet, the printed mesh and the STL too.
+#![tactic(auto)]
+
 pub mod header; // the header of the mesh
 pub mod heading; // the heading lines are read
 mod body; // the contours and their vertices are read

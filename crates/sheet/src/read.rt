@@ -6,7 +6,7 @@ use crate::body::read_body;
 use crate::heading::{Heading, HeadingRead, read_heading};
 
 // A sheet: its heading, and how many contours and vertices stand in the lists; or a refusal: its number and its line.
-#[derive(Drop)]
+#[derive(Clone, Copy)]
 pub enum SheetRead {
     Taken(Heading, usize, usize),
     Bad(u64, u64),

@@ -1,5 +1,7 @@
 // Runs the sheets of data/ one after the other: document 01's, meshes with removals, with merges that a tie or a moved polygon decides, with sides that
 // a box must not pass over, one refusal of each number that a sheet can have, the limits, and line ends.
+#![tactic(auto)]
+
 use libc::STDOUT_FILENO;
 
 // Writes the case's name, and what is printed for it.

@@ -1,5 +1,7 @@
 // Binary STL for the older carver: a mesh in, the file's bytes out, and back. `write_stl` and `read_stl` take any numbers; the
 // modules are their steps.
+#![tactic(auto)]
+
 pub mod bytes; // numbers as four bytes, and zeros
 mod scale; // size and height in millimetres
 mod points; // the bytes of a point and of a facet

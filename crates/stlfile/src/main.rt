@@ -1,4 +1,6 @@
 // Meshes the job sheet on standard input, and writes the mesh as a binary STL to standard output; or the refusal's line.
+#![tactic(auto)]
+
 use libc::{STDIN_FILENO, STDOUT_FILENO};
 
 fn main() {

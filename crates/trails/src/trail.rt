@@ -10,7 +10,7 @@ use records::side::{SIDE_SIZE, load_side, store_side};
 use rules::{ChainPoint, Side};
 
 // Side `at` is tried next, of the `left` sides not yet used; the chain has `points` points, from the word `first` on.
-#[derive(Drop)]
+#[derive(Clone, Copy)]
 pub struct Trail {
     pub at: usize,
     pub left: usize,

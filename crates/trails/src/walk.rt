@@ -12,7 +12,7 @@ use words::fill::fill;
 use words::moves::move_down;
 
 // How many sides a walk left, and how many points its chain has.
-#[derive(Drop)]
+#[derive(Clone, Copy)]
 pub struct Walked {
     pub left: usize,
     pub points: usize,

@@ -12,7 +12,7 @@ use rules::{Found, Vertex};
 use words::places::link_at;
 
 // Where the weld's words stand: 4,096 buckets, the vertices' records, and for each vertex the next one in its bucket.
-#[derive(Drop)]
+#[derive(Clone, Copy)]
 pub struct Tables {
     pub buckets: usize,
     pub vertices: usize,
