@@ -46,13 +46,13 @@ pub area_few : (ws : List ℕ) → length ws / 2 < 3 → area (points_in ws) ≡
 unfolding points_in
 area_few ws h = few (point_of ws) (length ws / 2) h
 
--- ---- the loop's invariant: s are the bits of the sum where the turn k begins
-pub record Summed (ws : List ℕ) (s k : ℕ) : Type 0 where
+-- ---- the loop's invariant: s is the sum where the turn k begins
+pub record Summed (ws : List ℕ) (s : ℤ) (k : ℕ) : Type 0 where
   pub below : k + 1 ≤ length ws / 2
-  pub same : area (points_in ws) ≡ to_z w64 s +ℤ rest (point_of ws) (length ws / 2) k
-  pub size : Within (k * 2147352578) (to_z w64 s)
+  pub same : area (points_in ws) ≡ s +ℤ rest (point_of ws) (length ws / 2) k
+  pub size : Within (k * 2147352578) s
 
-pub summed_none : (ws : List ℕ) → 3 ≤ length ws / 2 → Summed ws 0 1
+pub summed_none : (ws : List ℕ) → 3 ≤ length ws / 2 → Summed ws (pos 0) 1
 unfolding points_in
 summed_none ws h =
     record {
@@ -61,11 +61,11 @@ summed_none ws h =
       size = within_pos (omega arith);
     }
 
-pub summed_all : {ws : List ℕ} {s k : ℕ} → Summed ws s k → length ws / 2 ≤ k + 1 → to_z w64 s ≡ area (points_in ws)
-summed_all {ws} {s} {k} r h = sym (r.same ∙ rw (rest_none (point_of ws) (length ws / 2) k h) (+ℤ_idr (to_z w64 s)))
+pub summed_all : {ws : List ℕ} {s : ℤ} {k : ℕ} → Summed ws s k → length ws / 2 ≤ k + 1 → s ≡ area (points_in ws)
+summed_all {ws} {s} {k} r h = sym (r.same ∙ rw (rest_none (point_of ws) (length ws / 2) k h) (+ℤ_idr s))
 
--- a turn: d is the D that it adds, and z are its bits
-module _ {ws : List ℕ} {s k z : ℕ} {d : ℤ} (g : GridWords ws) (r : Summed ws s k) (z-is : Reads w32 z d)
+-- a turn: s are the bits of the sum, d is the D that it adds, and z are its bits
+module _ {ws : List ℕ} (s : ℕ) {k z : ℕ} {d : ℤ} (g : GridWords ws) (r : Summed ws (to_z w64 s) k) (z-is : Reads w32 z d)
     (d-is : d ≡ D (point_of ws 0) (point_of ws k) (point_of ws (k + 1))) where
   turn_size : Within 2147352578 d
   turn_size = rw d-is (D-within (on_grid g 0) (on_grid g k) (on_grid g (k + 1)))
@@ -88,7 +88,7 @@ module _ {ws : List ℕ} {s k z : ℕ} {d : ℤ} (g : GridWords ws) (r : Summed 
   turn_rest : k + 1 < length ws / 2 → rest (point_of ws) (length ws / 2) k ≡ d +ℤ rest (point_of ws) (length ws / 2) (k + 1)
   turn_rest h = rw d-is (rest_more (point_of ws) (length ws / 2) k h)
 
-  pub summed_more : k + 1 < length ws / 2 → Summed ws (of_z w64 (to_z w64 s +ℤ to_z w64 (of_z w64 (to_z w32 z)))) (k + 1)
+  pub summed_more : k + 1 < length ws / 2 → Summed ws (to_z w64 (of_z w64 (to_z w64 s +ℤ to_z w64 (of_z w64 (to_z w32 z))))) (k + 1)
   summed_more h =
       let q = add_reads (reads_self w64 s) turn_reads more_fits in
       record {
