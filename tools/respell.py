@@ -29,6 +29,12 @@ def files(ending):
                 yield os.path.join(folder, name)
 
 
+def of_function(path):
+    """Whether a file is of the proof of one function, and not of definitions or lemmas."""
+    folder, name = os.path.split(path)
+    return name in PER_FUNCTION and os.path.basename(folder) not in ("specs", "proofs")
+
+
 def text_of(path):
     with open(path, encoding="utf-8") as f:
         return f.read()
@@ -44,7 +50,7 @@ def declared():
     """The names to be respelled, old to new; and those among them that are fields."""
     names, fields = set(), set()
     for path in files(".antt"):
-        if os.path.basename(path) in PER_FUNCTION:
+        if of_function(path):
             continue
         code = re.sub(r"(?m)--.*$", "", text_of(path))
         names.update(it for it in DECLARED.findall(code) if re.match(r"[a-z]", it))

@@ -17,22 +17,22 @@ use Rattle.laws.specs.Checks.{Agreed, T-below-V}
 use Rattle.checks.specs.declared.check.Verdict.{Verdict}
 use Rattle.checks.specs.declared.check.Verdict.TheVariants.{Passed, Refused}
 use Rattle.checks.specs.Sums.{sum_all, sum_v, sum_t, all_is, v_is, t_is}
-use Rattle.checks.specs.Answers.{verdictOf, first_of, first-of, firstHighIn, firstBadFlagIn, high_is, flag_is, leastOf, least-is}
+use Rattle.checks.specs.Answers.{verdict_of, first_of, first_of_lem, first_high_in, first_bad_flag_in, high_is, flag_is, least_of, least_is}
 use Rattle.checks.proofs.Order.{vertex_checks, room_check}
 
 -- what a search found, as a verdict
 module _ (r : ℕ → Refusal) {f g : Found} (e : f ≡ g) where
-  pub found_at : {k : ℕ} → f ≡ At k → Refused (r k) ≡ verdictOf (refuse_at r g)
-  unfolding verdictOf refuse_at
+  pub found_at : {k : ℕ} → f ≡ At k → Refused (r k) ≡ verdict_of (refuse_at r g)
+  unfolding verdict_of refuse_at
   found_at q = rw (← e, q) refl
 
-  pub found_none : f ≡ Nothing → Passed ≡ verdictOf (refuse_at r g)
-  unfolding verdictOf refuse_at
+  pub found_none : f ≡ Nothing → Passed ≡ verdict_of (refuse_at r g)
+  unfolding verdict_of refuse_at
   found_none q = rw (← e, q) refl
 
 module _ (j : Job) where
   -- 1
-  pub limit_is : {nvp : ℕ} (bad : Bool) → j.nvp ≡ nvp → (ltb nvp 3 || ltb 12 nvp) ≡ bad → verdictOf (refuse_if bad (BadCornerLimit nvp)) ≡ verdictOf (check_nvp j)
+  pub limit_is : {nvp : ℕ} (bad : Bool) → j.nvp ≡ nvp → (ltb nvp 3 || ltb 12 nvp) ≡ bad → verdict_of (refuse_if bad (BadCornerLimit nvp)) ≡ verdict_of (check_nvp j)
   unfolding check_nvp
   limit_is bad e q = rw (e, q) refl
 
@@ -52,12 +52,12 @@ module _ (j : Job) where
 
   -- 3 and 4, of as many vertices as the lengths say
   pub vertices_are : {n : ℕ} {high flags vertices : Verdict} → n ≡ sum_all j.lengths
-      → high ≡ verdictOf (refuse_at HighCoordinate (firstHighIn j.numbers n))
-      → flags ≡ verdictOf (refuse_at BadFlag (firstBadFlagIn j.numbers n)) → vertices ≡ first_of high flags → vertices ≡ verdictOf (vertex_checks j)
-  vertices_are e a b q = rw (first-of, high_is, flag_is, all_is, ← e, ← a, ← b) q
+      → high ≡ verdict_of (refuse_at HighCoordinate (first_high_in j.numbers n))
+      → flags ≡ verdict_of (refuse_at BadFlag (first_bad_flag_in j.numbers n)) → vertices ≡ first_of high flags → vertices ≡ verdict_of (vertex_checks j)
+  vertices_are e a b q = rw (first_of_lem, high_is, flag_is, all_is, ← e, ← a, ← b) q
 
   -- 5
-  pub many_is : {v : ℕ} {many : Verdict} → v ≡ sum_v j.lengths → many ≡ verdictOf (refuse_if (ltb 65535 v) (TooManyVertices v)) → many ≡ verdictOf (check_v j)
+  pub many_is : {v : ℕ} {many : Verdict} → v ≡ sum_v j.lengths → many ≡ verdict_of (refuse_if (ltb 65535 v) (TooManyVertices v)) → many ≡ verdict_of (check_v j)
   unfolding check_v
   many_is e q = rw (v_is, ← e) q
 
@@ -66,5 +66,5 @@ module _ (j : Job) where
     pub t_below : t ≤ v
     t_below = omega (arith, T-below-V j, v_is j, t_is j)
 
-    pub room_is : (ls : List ℕ) {room : Verdict} → room ≡ verdictOf (refuse_at ShortBuffer (first_short ls (leastOf j.nvp v t))) → room ≡ verdictOf (room_check j ls)
-    room_is ls q = rw (least-is, v_is, t_is, ← e, ← f) q
+    pub room_is : (ls : List ℕ) {room : Verdict} → room ≡ verdict_of (refuse_at ShortBuffer (first_short ls (least_of j.nvp v t))) → room ≡ verdict_of (room_check j ls)
+    room_is ls q = rw (least_is, v_is, t_is, ← e, ← f) q

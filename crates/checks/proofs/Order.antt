@@ -14,23 +14,23 @@ use Rattle.rules.specs.declared.Refusal.TheVariants.{BadCornerLimit, CountsDisag
 use Rattle.laws.specs.Checks.{not_refused, Agreed, agreed}
 use Rattle.checks.specs.declared.check.Verdict.{Verdict}
 use Rattle.checks.specs.declared.check.Verdict.TheVariants.{Passed, Refused}
-use Rattle.checks.specs.Answers.{verdictOf, first_of, first-of, is-passed}
+use Rattle.checks.specs.Answers.{verdict_of, first_of, first_of_lem, is_passed}
 
 -- ---- what is known once a check has passed
-not_refusing : (b : Bool) (r : Refusal) {v : Verdict} → v ≡ verdictOf (refuse_if b r) → v ≡ Passed → b ≡ false
-not_refusing b r e p = not_refused b r (is-passed (refuse_if b r) (sym e ∙ p))
+not_refusing : (b : Bool) (r : Refusal) {v : Verdict} → v ≡ verdict_of (refuse_if b r) → v ≡ Passed → b ≡ false
+not_refusing b r e p = not_refused b r (is_passed (refuse_if b r) (sym e ∙ p))
 
 module _ (j : Job) {v : Verdict} where
-  pub limit_low : v ≡ verdictOf (check_nvp j) → v ≡ Passed → j.nvp ≤ 12
+  pub limit_low : v ≡ verdict_of (check_nvp j) → v ≡ Passed → j.nvp ≤ 12
   unfolding check_nvp
   limit_low e p =
       ltb-false 12 j.nvp (or_right (ltb j.nvp 3) (ltb 12 j.nvp) (not_refusing (ltb j.nvp 3 || ltb 12 j.nvp) (BadCornerLimit j.nvp) e p))
 
-  pub counts_agreed : v ≡ verdictOf (check_counts j) → v ≡ Passed → Agreed j
+  pub counts_agreed : v ≡ verdict_of (check_counts j) → v ≡ Passed → Agreed j
   unfolding check_counts
   counts_agreed e p = agreed j (not-false (counts_agree j) (not_refusing (not (counts_agree j)) CountsDisagree e p))
 
-pub few : {n : ℕ} {v : Verdict} → v ≡ verdictOf (refuse_if (ltb 65535 n) (TooManyVertices n)) → v ≡ Passed → n ≤ 65535
+pub few : {n : ℕ} {v : Verdict} → v ≡ verdict_of (refuse_if (ltb 65535 n) (TooManyVertices n)) → v ≡ Passed → n ≤ 65535
 few {n} e p = ltb-false 65535 n (not_refusing (ltb 65535 n) (TooManyVertices n) e p)
 
 -- ---- one check after the other
@@ -59,7 +59,7 @@ or_assoc (refusal r) b c = refl
 
 -- a comes next and then b: their answer is the answer of the whole
 pub record Rest (j : Job) (ls : List ℕ) (a b : Checked) : Type 0 where
-  pub same : verdictOf (or_next a b) ≡ verdictOf (check j ls)
+  pub same : verdict_of (or_next a b) ≡ verdict_of (check j ls)
 
 -- 1, 2, 3 or 5 comes next
 abbrev pub Left-1 : Job → List ℕ → Type 0
@@ -79,16 +79,16 @@ unfolding check
 all_left j ls =
     let high = refuse_at HighCoordinate (first_high j) in
     let flags = refuse_at BadFlag (first_bad_flag j) in
-    record { same = ap (λ (c : Checked). verdictOf (or_next (check_nvp j) (or_next (check_counts j) c))) (sym (or_assoc high flags (from_5 j ls))) }
+    record { same = ap (λ (c : Checked). verdict_of (or_next (check_nvp j) (or_next (check_counts j) c))) (sym (or_assoc high flags (from_5 j ls))) }
 
-module _ {j : Job} {ls : List ℕ} {a b : Checked} {v : Verdict} (l : Rest j ls a b) (e : v ≡ verdictOf a) where
-  split : first_of v (verdictOf b) ≡ verdictOf (check j ls)
-  split = ap (λ (x : Verdict). first_of x (verdictOf b)) e ∙ sym (first-of a b) ∙ l.same
+module _ {j : Job} {ls : List ℕ} {a b : Checked} {v : Verdict} (l : Rest j ls a b) (e : v ≡ verdict_of a) where
+  split : first_of v (verdict_of b) ≡ verdict_of (check j ls)
+  split = ap (λ (x : Verdict). first_of x (verdict_of b)) e ∙ sym (first_of_lem a b) ∙ l.same
 
-  pub past : v ≡ Passed → verdictOf b ≡ verdictOf (check j ls)
+  pub past : v ≡ Passed → verdict_of b ≡ verdict_of (check j ls)
   unfolding first_of
   past p = rw p at split
 
-  pub stop : {r : Refusal} → v ≡ Refused r → v ≡ verdictOf (check j ls)
+  pub stop : {r : Refusal} → v ≡ Refused r → v ≡ verdict_of (check j ls)
   unfolding first_of
   stop p = p ∙ rw p at split

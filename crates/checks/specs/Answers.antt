@@ -1,5 +1,5 @@
 -- A job of the numbers that are handed in, the verdict, and the searches and the least lengths over those numbers. Assumes nothing.
--- Key: `is-passed`, `is-refusal`: what a verdict says of the rules' check; `high_is`, `flag_is`, `least-is`: searches and lengths are the rules'.
+-- Key: `is_passed`, `is_refusal`: what a verdict says of the rules' check; `high_is`, `flag_is`, `least_is`: searches and lengths are the rules'.
 use Rattle.std.specs.Prelude.{◌≡◌, refl, List, [], ◌∷◌, ℕ, ◌+◌, ◌*◌, ◌≤◌, ltb}
 use Rattle.std.proofs.Common.{arith}
 use Rattle.mem.specs.Loops.{over}
@@ -17,44 +17,44 @@ abbrev pub job_of : ℕ → ℕ → ℕ → ℕ → List ℕ → List ℕ → Li
 job_of nvp w h border ls rs cs ns = record { nvp = nvp; w = w; h = h; border = border; lengths = ls; regions = rs; codes = cs; numbers = ns }
 
 -- the answer of the code, case by case: it may be built, or the refusal, whose number and second number are the rules' `refusal_number` and `refusal_second`
-unfoldable pub verdictOf : Checked → Verdict
-verdictOf passed = Passed
-verdictOf (refusal r) = Refused r
+unfoldable pub verdict_of : Checked → Verdict
+verdict_of passed = Passed
+verdict_of (refusal r) = Refused r
 
 -- the first of two verdicts that refuses: the rules' `or_next`, of verdicts
 unfoldable pub first_of : Verdict → Verdict → Verdict
 first_of Passed v = v
 first_of (Refused r) v = Refused r
 
-pub first-of : (a b : Checked) → verdictOf (or_next a b) ≡ first_of (verdictOf a) (verdictOf b)
-unfolding verdictOf first_of or_next
-first-of passed b = refl
-first-of (refusal r) b = refl
+pub first_of_lem : (a b : Checked) → verdict_of (or_next a b) ≡ first_of (verdict_of a) (verdict_of b)
+unfolding verdict_of first_of or_next
+first_of_lem passed b = refl
+first_of_lem (refusal r) b = refl
 
 -- for those who call: what the verdict says of the rules' own check
-pub is-passed : (c : Checked) → verdictOf c ≡ Passed → c ≡ passed
-unfolding verdictOf
-is-passed passed e = refl
-is-passed (refusal r) e = let z : ◌≡◌ {A = ℕ} 0 1 = cc in absurd (omega arith)
+pub is_passed : (c : Checked) → verdict_of c ≡ Passed → c ≡ passed
+unfolding verdict_of
+is_passed passed e = refl
+is_passed (refusal r) e = let z : ◌≡◌ {A = ℕ} 0 1 = cc in absurd (omega arith)
 
-pub is-refusal : (c : Checked) (r : Refusal) → verdictOf c ≡ Refused r → c ≡ refusal r
-unfolding verdictOf
-is-refusal passed r e = let z : ◌≡◌ {A = ℕ} 0 1 = cc in absurd (omega arith)
-is-refusal (refusal q) r e = cc
+pub is_refusal : (c : Checked) (r : Refusal) → verdict_of c ≡ Refused r → c ≡ refusal r
+unfolding verdict_of
+is_refusal passed r e = let z : ◌≡◌ {A = ℕ} 0 1 = cc in absurd (omega arith)
+is_refusal (refusal q) r e = cc
 
 -- the rules' `first_high` and `first_bad_flag`, of n vertices of the numbers ns
-unfoldable pub firstHighIn : List ℕ → ℕ → Found
-firstHighIn ns n = over Nothing or_else (λ k. when (is_high (vertex_at ns k)) k) 0 n
+unfoldable pub first_high_in : List ℕ → ℕ → Found
+first_high_in ns n = over Nothing or_else (λ k. when (is_high (vertex_at ns k)) k) 0 n
 
-unfoldable pub firstBadFlagIn : List ℕ → ℕ → Found
-firstBadFlagIn ns n = over Nothing or_else (λ k. when (ltb 1 (flag_at ns k)) k) 0 n
+unfoldable pub first_bad_flag_in : List ℕ → ℕ → Found
+first_bad_flag_in ns n = over Nothing or_else (λ k. when (ltb 1 (flag_at ns k)) k) 0 n
 
-pub high_is : (j : Job) → first_high j ≡ firstHighIn j.numbers (count_all j)
-unfolding first_high firstHighIn
+pub high_is : (j : Job) → first_high j ≡ first_high_in j.numbers (count_all j)
+unfolding first_high first_high_in
 high_is j = refl
 
-pub flag_is : (j : Job) → first_bad_flag j ≡ firstBadFlagIn j.numbers (count_all j)
-unfolding first_bad_flag firstBadFlagIn
+pub flag_is : (j : Job) → first_bad_flag j ≡ first_bad_flag_in j.numbers (count_all j)
+unfolding first_bad_flag first_bad_flag_in
 flag_is j = refl
 
 -- numbers that have passed replies 1 and 5: no least length of theirs wraps
@@ -64,9 +64,9 @@ pub record Sized (nvp v t : ℕ) : Type 0 where
   pub t_most : t ≤ v
 
 -- the rules' `least_lengths`, of nvp, V and T
-unfoldable pub leastOf : ℕ → ℕ → ℕ → List ℕ
-leastOf nvp v t = (vertex_stride * v) ∷ (t * nvp) ∷ (t * nvp) ∷ t ∷ t ∷ t ∷ (4096 + 128 * v) ∷ []
+unfoldable pub least_of : ℕ → ℕ → ℕ → List ℕ
+least_of nvp v t = (vertex_stride * v) ∷ (t * nvp) ∷ (t * nvp) ∷ t ∷ t ∷ t ∷ (4096 + 128 * v) ∷ []
 
-pub least-is : (j : Job) → least_lengths j ≡ leastOf j.nvp (count_v j) (count_t j)
-unfolding least_lengths leastOf work_words
-least-is j = refl
+pub least_is : (j : Job) → least_lengths j ≡ least_of j.nvp (count_v j) (count_t j)
+unfolding least_lengths least_of work_words
+least_is j = refl

@@ -3,7 +3,7 @@ ghost use Rattle.std.specs.Prelude.{◌≡◌, ℕ, ◌*◌, ◌≤◌, ltb, len
 ghost use Rattle.rules.specs.Job.{Job, job_stride};
 ghost use Rattle.rules.specs.Checks.{refuse_if, refuse_at, check_nvp, check_counts, first_short, check};
 ghost use Rattle.rules.specs.declared.Refusal.TheVariants.{HighCoordinate, BadFlag, TooManyVertices, ShortBuffer};
-ghost use Rattle.checks.specs.Answers.{job_of, verdictOf, first_of, firstHighIn, firstBadFlagIn, Sized, leastOf};
+ghost use Rattle.checks.specs.Answers.{job_of, verdict_of, first_of, first_high_in, first_bad_flag_in, Sized, least_of};
 
 use crate::counts::{count_all, count_t, count_v, counts_agree};
 use crate::room::{BUFFERS, first_short, least_lengths};
@@ -29,7 +29,7 @@ fn or_next(a: Verdict, b: Verdict) -> Verdict
 
 // 1: nvp below 3 or above 12.
 fn check_nvp(nvp: u32) -> Verdict
-    ensures { (j : Job) → j.nvp ≡ nvp → result ≡ verdictOf (check_nvp j) }
+    ensures { (j : Job) → j.nvp ≡ nvp → result ≡ verdict_of (check_nvp j) }
 {
     if (nvp < 3) | (12 < nvp) {
         return Verdict::Refused(Refusal::BadCornerLimit(nvp as u64));
@@ -39,7 +39,7 @@ fn check_nvp(nvp: u32) -> Verdict
 
 // 2: the lists don't agree in count, or there are over 65,535 contours.
 fn check_counts(lengths: &[u32], regions: &[u16], codes: &[u8], numbers: &[u16]) -> Verdict
-    ensures { (nvp w h border : ℕ) → result ≡ verdictOf (check_counts (job_of nvp w h border lengths.now regions.now codes.now numbers.now)) }
+    ensures { (nvp w h border : ℕ) → result ≡ verdict_of (check_counts (job_of nvp w h border lengths.now regions.now codes.now numbers.now)) }
 {
     if counts_agree(lengths, regions, codes, numbers) {
         return Verdict::Passed;
@@ -50,7 +50,7 @@ fn check_counts(lengths: &[u32], regions: &[u16], codes: &[u8], numbers: &[u16])
 // 3: x or z of a vertex is above 32,767.
 fn check_high(numbers: &[u16], n: usize) -> Verdict
     requires { n * job_stride ≤ length numbers.now }
-    ensures { result ≡ verdictOf (refuse_at HighCoordinate (firstHighIn numbers.now n)) }
+    ensures { result ≡ verdict_of (refuse_at HighCoordinate (first_high_in numbers.now n)) }
 {
     match first_high(numbers, n) {
         Found::At(k) => Verdict::Refused(Refusal::HighCoordinate(k as u64)),
@@ -61,7 +61,7 @@ fn check_high(numbers: &[u16], n: usize) -> Verdict
 // 4: the flag of a vertex is neither 0 nor 1.
 fn check_flags(numbers: &[u16], n: usize) -> Verdict
     requires { n * job_stride ≤ length numbers.now }
-    ensures { result ≡ verdictOf (refuse_at BadFlag (firstBadFlagIn numbers.now n)) }
+    ensures { result ≡ verdict_of (refuse_at BadFlag (first_bad_flag_in numbers.now n)) }
 {
     match first_bad_flag(numbers, n) {
         Found::At(k) => Verdict::Refused(Refusal::BadFlag(k as u64)),
@@ -71,7 +71,7 @@ fn check_flags(numbers: &[u16], n: usize) -> Verdict
 
 // 5: V is above 65,535.
 fn check_v(v: usize) -> Verdict
-    ensures { result ≡ verdictOf (refuse_if (ltb 65535 v) (TooManyVertices v)) }
+    ensures { result ≡ verdict_of (refuse_if (ltb 65535 v) (TooManyVertices v)) }
 {
     if 65535 < v {
         return Verdict::Refused(Refusal::TooManyVertices(v as u64));
@@ -82,7 +82,7 @@ fn check_v(v: usize) -> Verdict
 // 6: a lent buffer is too short.
 fn check_room(nvp: u32, v: usize, t: usize, have: [usize; BUFFERS]) -> Verdict
     requires { Sized nvp v t }
-    ensures { result ≡ verdictOf (refuse_at ShortBuffer (first_short have (leastOf nvp v t))) }
+    ensures { result ≡ verdict_of (refuse_at ShortBuffer (first_short have (least_of nvp v t))) }
 {
     match first_short(have, least_lengths(nvp, v, t)) {
         Found::At(k) => Verdict::Refused(Refusal::ShortBuffer(k as u64)),
@@ -100,7 +100,7 @@ pub fn check(
     numbers: &[u16],
     have: [usize; BUFFERS],
 ) -> Verdict
-    ensures { (w h border : ℕ) → result ≡ verdictOf (check (job_of nvp w h border lengths.now regions.now codes.now numbers.now) have) }
+    ensures { (w h border : ℕ) → result ≡ verdict_of (check (job_of nvp w h border lengths.now regions.now codes.now numbers.now) have) }
 {
     let limit = check_nvp(nvp);
     let Verdict::Passed = limit else {

@@ -1,7 +1,7 @@
 // The least lengths of the lent buffers, and the first buffer that is shorter.
 ghost use Rattle.std.specs.Prelude.{◌≡◌, ◌+◌, ◌*◌, ◌≤◌};
 ghost use Rattle.rules.specs.Checks.{first_short};
-ghost use Rattle.checks.specs.Answers.{Sized, leastOf};
+ghost use Rattle.checks.specs.Answers.{Sized, least_of};
 
 use rules::{Found, VERTEX_STRIDE};
 
@@ -19,7 +19,7 @@ pub fn work_words(v: usize) -> usize
 // The least lengths, in the order of the buffers, of a job with this nvp, V and T.
 pub fn least_lengths(nvp: u32, v: usize, t: usize) -> [usize; BUFFERS]
     requires { Sized nvp v t }
-    ensures { result ≡ leastOf nvp v t }
+    ensures { result ≡ least_of nvp v t }
 {
     let corners = t * nvp as usize;
     [VERTEX_STRIDE * v, corners, corners, t, t, t, work_words(v)]

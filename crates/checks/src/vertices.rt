@@ -2,7 +2,7 @@
 ghost use Rattle.std.specs.Prelude.{◌≡◌, ◌+◌, ◌*◌, ◌≤◌, ltb, length};
 ghost use Rattle.rules.specs.Job.{job_stride, vertex_at, flag_at};
 ghost use Rattle.rules.specs.Checks.{is_high};
-ghost use Rattle.checks.specs.Answers.{firstHighIn, firstBadFlagIn};
+ghost use Rattle.checks.specs.Answers.{first_high_in, first_bad_flag_in};
 
 use crate::counts::JOB_STRIDE;
 use rules::Found;
@@ -27,7 +27,7 @@ fn is_bad_flag(numbers: &[u16], k: usize) -> bool
 // The first of the n vertices with x or z above 32,767.
 pub fn first_high(numbers: &[u16], n: usize) -> Found
     requires { n * job_stride ≤ length numbers.now }
-    ensures { result ≡ firstHighIn numbers.now n }
+    ensures { result ≡ first_high_in numbers.now n }
 {
     let mut found = Found::Nothing;
     let mut k = 0;
@@ -44,7 +44,7 @@ pub fn first_high(numbers: &[u16], n: usize) -> Found
 // The first of the n vertices whose flag is neither 0 nor 1.
 pub fn first_bad_flag(numbers: &[u16], n: usize) -> Found
     requires { n * job_stride ≤ length numbers.now }
-    ensures { result ≡ firstBadFlagIn numbers.now n }
+    ensures { result ≡ first_bad_flag_in numbers.now n }
 {
     let mut found = Found::Nothing;
     let mut k = 0;

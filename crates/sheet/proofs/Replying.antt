@@ -23,7 +23,7 @@ use Rattle.sheet.specs.Printable.{MeshStands}
 use Rattle.sheet.specs.Reading.{sheet_of, with_lists}
 use Rattle.sheet.specs.Enough.{sheet_lengths}
 use Rattle.sheet.specs.Room.{out_most}
-use Rattle.sheet.specs.Answers.{Called, text-room, refused_text_lem, built-text}
+use Rattle.sheet.specs.Answers.{Called, text_room, refused_text_lem, built_text_lem}
 use Rattle.sheet.specs.Answering.{reply_text, StandsFor, ReplyReady, job_text}
 
 module _ (x : Heading) (reply : Reply) (vs ps ls rs cs : List ℕ) where
@@ -59,14 +59,14 @@ module _ (x : Heading) (ls rs cs ns : List ℕ) {h : Header} {b : Lent} {q : Ans
   text_is : (r : Reply) → q.reply ≡ r → job_text x ls rs cs ns ≡ reply_text x r u.vertices u.polygons u.neighbours u.regions u.codes
   unfolding job_text reply_text with_lists sheet_of
   text_is (Refused r) e = refused_text_lem c r e
-  text_is (Built n k) e = (built-text c n k e).text
+  text_is (Built n k) e = (built_text_lem c n k e).text
 
   pub reply_text_lem : job_text x ls rs cs ns ≡ reply_text x q.reply u.vertices u.polygons u.neighbours u.regions u.codes
   reply_text_lem = text_is q.reply refl
 
   pub job_room : length (job_text x ls rs cs ns) ≤ out_most
   unfolding job_text
-  job_room = text-room c
+  job_room = text_room c
 
   -- the buffers have their lengths still
   module _ (long : lengths_of u ≡ sheet_lengths) where
@@ -77,7 +77,7 @@ module _ (x : Heading) (ls rs cs ns : List ℕ) {h : Header} {b : Lent} {q : Ans
     unfolding StandsFor with_lists sheet_of lengths_of
     stands_for (Refused r) e = tt
     stands_for (Built n k) e =
-        let t = built-text c n k e in
+        let t = built_text_lem c n k e in
         record {
           ready = t.ready (long_at 1) (long_at 0);
           links = rw (long_at 2) (le_trans (mul-le-mul_right x.nvp t.polygons) (mul-le-mul_left 96 t.most));
@@ -87,4 +87,4 @@ module _ (x : Heading) (ls rs cs ns : List ℕ) {h : Header} {b : Lent} {q : Ans
 
     pub reply_ready : (out : List ℕ) → out_most ≤ length out → ReplyReady x q.reply u.vertices u.polygons u.neighbours u.regions u.codes out
     unfolding job_text
-    reply_ready out m = record { stands = stands_for q.reply refl; room = rw (← reply_text_lem) (omega (arith, text-room c, m)) }
+    reply_ready out m = record { stands = stands_for q.reply refl; room = rw (← reply_text_lem) (omega (arith, text_room c, m)) }

@@ -1,5 +1,5 @@
 -- What the build's answer and its buffers at exit say of the mesh: the stored mesh is the rules' mesh, and it is ready to be printed. Assumes nothing.
--- Key: `refused_text_lem`, `built-text`: what is printed, by the build's reply; `text-room`: there is room for it.
+-- Key: `refused_text_lem`, `built_text_lem`: what is printed, by the build's reply; `text_room`: there is room for it.
 use Rattle.std.specs.Prelude.{◌≡◌, refl, List, [], ◌∷◌, ◌++◌, ℕ, ◌+◌, ◌*◌, ◌≤◌, ◌<◌, length}
 use Rattle.std.proofs.Math.Path.{sym, ap}
 use Rattle.std.proofs.Common.{◌∙◌, append_assoc, mul-le-mul_right, mul-le-mul_left}
@@ -37,17 +37,17 @@ use Rattle.sheet.specs.Room.{out_most, built_room}
 -- ---- the stored mesh
 
 -- a mesh as it is stored
-abbrev pub storedOf : Mesh → List (List ℕ) → Stored
-storedOf m ls = record { vertices = m.vertices; polygons = m.polygons; links = ls }
+abbrev pub stored_of : Mesh → List (List ℕ) → Stored
+stored_of m ls = record { vertices = m.vertices; polygons = m.polygons; links = ls }
 
 -- five of the seven buffers hold it
-pub decoded-five : (nvp n k : ℕ) (b : Lent) → decoded nvp n k b ≡ decoded nvp n k (lent_of b.vertices b.polygons b.neighbours b.regions b.codes)
+pub decoded_five : (nvp n k : ℕ) (b : Lent) → decoded nvp n k b ≡ decoded nvp n k (lent_of b.vertices b.polygons b.neighbours b.regions b.codes)
 unfolding decoded lent_of stored_polygon stored_links
-decoded-five nvp n k b = refl
+decoded_five nvp n k b = refl
 
 -- vertices on the grid, and polygons of at most 12 corners over them
 module _ (nvp n k : ℕ) (vs ps ks rs cs : List ℕ) (m : Mesh) (ls : List (List ℕ))
-    (is : decoded nvp n k (lent_of vs ps ks rs cs) ≡ storedOf m ls) (polygons : n ≡ length m.polygons) (vertices : k ≡ length m.vertices) (sound : Sound nvp m) where
+    (is : decoded nvp n k (lent_of vs ps ks rs cs) ≡ stored_of m ls) (polygons : n ≡ length m.polygons) (vertices : k ≡ length m.vertices) (sound : Sound nvp m) where
   vertex_is : (v : ℕ) → v < k → vertex_of (view vs (v * vertex_stride) vertex_stride) ≡ get_or m.vertices v no_vertex
   unfolding decoded lent_of
   vertex_is v h =
@@ -66,15 +66,15 @@ module _ (nvp n k : ℕ) (vs ps ks rs cs : List ℕ) (m : Mesh) (ls : List (List
   unfolding vertex_of
   z_small v h = rw (← get_or_view vs (v * vertex_stride) vertex_stride 2 0 (omega arith)) (on_grid v h).z_small
 
-  polygon-is : (i : ℕ) → i < n → up_to_none (view ps (i * nvp) nvp) ≡ (polygon_at m.polygons i).corners
+  polygon_is : (i : ℕ) → i < n → up_to_none (view ps (i * nvp) nvp) ≡ (polygon_at m.polygons i).corners
   unfolding decoded lent_of stored_polygon
-  polygon-is i h =
+  polygon_is i h =
       ap (λ (p : Polygon). p.corners)
       (sym (get_or_tab (stored_polygon nvp (lent_of vs ps ks rs cs)) n i no_polygon h) ∙ ap (λ (s : Stored). get_or s.polygons i no_polygon) is)
 
   corner_below : (i c : ℕ) → i < n → c < length (up_to_none (view ps (i * nvp) nvp)) → get_or (up_to_none (view ps (i * nvp) nvp)) c 0 < k
   corner_below i c h a =
-      rw (polygon-is i h, vertices) (all_at (all_at sound.good i no_polygon (rw (← polygons) h)).inside c 0 (rw (polygon-is i h) at a))
+      rw (polygon_is i h, vertices) (all_at (all_at sound.good i no_polygon (rw (← polygons) h)).inside c 0 (rw (polygon_is i h) at a))
 
   pub mesh_ready : nvp ≤ 12 → n ≤ 96 → k ≤ 96 → length ps ≡ 1152 → length vs ≡ 288 → MeshReady nvp n k vs ps
   mesh_ready few a b p v = record {
@@ -105,8 +105,8 @@ module _ {s : Sheet} {x : Header} {b : Lent} {q : Answer} {u : Lent} (c : Called
   replied = ap (λ (a : Answer). a.reply) c.answered
 
   -- there is room for all of it
-  pub text-room : length (built_text s (outcome_of s.job)) ≤ out_most
-  text-room = rw came_to (built_room s b (outcome s.job b) refl c.few)
+  pub text_room : length (built_text s (outcome_of s.job)) ≤ out_most
+  text_room = rw came_to (built_room s b (outcome s.job b) refl c.few)
 
   pub refused_text_lem : (r : Refusal) → q.reply ≡ Refused r → built_text s (outcome_of s.job) ≡ refused_text (refusal_number r) (refusal_second r)
   unfolding built_text
@@ -130,10 +130,10 @@ module _ {s : Sheet} {x : Header} {b : Lent} {q : Answer} {u : Lent} (c : Called
       let v = le_trans (V-below-all j) c.few in
       let nf : n ≤ 96 = rw a.polygons (le_trans d.polygons (le_trans (T-below-V j) v)) in
       let kf : k ≤ 96 = rw a.vertices (le_trans d.vertices v) in
-      let is : decoded j.nvp n k (lent_of u.vertices u.polygons u.neighbours u.regions u.codes) ≡ storedOf m a.links =
-      sym (decoded-five j.nvp n k u) ∙ rw (a.polygons, a.vertices, c.left) (reads_back j b m a.links a.log a.is) in
+      let is : decoded j.nvp n k (lent_of u.vertices u.polygons u.neighbours u.regions u.codes) ≡ stored_of m a.links =
+      sym (decoded_five j.nvp n k u) ∙ rw (a.polygons, a.vertices, c.left) (reads_back j b m a.links a.log a.is) in
       record {
-        text = rw (came_to, a.is, is) (sym (append_assoc (unit_line s.inches) (number_line cell_name (s.size ∷ s.height ∷ [])) (mesh_text (storedOf m a.links))));
+        text = rw (came_to, a.is, is) (sym (append_assoc (unit_line s.inches) (number_line cell_name (s.size ∷ s.height ∷ [])) (mesh_text (stored_of m a.links))));
         polygons = nf;
         vertices = kf;
         most = p.nvp_high;
@@ -141,5 +141,5 @@ module _ {s : Sheet} {x : Header} {b : Lent} {q : Answer} {u : Lent} (c : Called
             p.nvp_high nf kf lp lv;
       }
 
-  pub built-text : (n k : ℕ) → q.reply ≡ Built n k → BuiltText n k
-  built-text n k e = from_mesh n k (was_built (outcome s.job b) n k (sym e ∙ replied))
+  pub built_text_lem : (n k : ℕ) → q.reply ≡ Built n k → BuiltText n k
+  built_text_lem n k e = from_mesh n k (was_built (outcome s.job b) n k (sym e ∙ replied))

@@ -31,7 +31,7 @@ use Rattle.laws.specs.Stl.{sum_most}
 use Rattle.sheet.specs.declared.heading.Heading.{Heading}
 use Rattle.sheet.specs.Reading.{sheet_of, with_lists}
 use Rattle.sheet.specs.Room.{out_most, refused_room, few_corners}
-use Rattle.sheet.specs.Answers.{Called, came_to, replied, built-text}
+use Rattle.sheet.specs.Answers.{Called, came_to, replied, built_text_lem}
 use Rattle.stlsheet.specs.Carving.{written_text, carved_in, CarveReady, reply_file, StandsFor, ReplyReady, job_file}
 use Rattle.stlsheet.proofs.Written.{text_short, sound_written}
 
@@ -78,7 +78,7 @@ module _ {s : Sheet} {h : Header} {b : Lent} {q : Answer} {u : Lent} (c : Called
         omega (
           arith,
           a.polygons,
-          (built-text c n k e).polygons,
+          (built_text_lem c n k e).polygons,
           sum_most (λ i. length (polygon_at ps i).corners - 2) 10 0 (length ps) (λ i. omega (arith, few_corners ps d.sound.good p.nvp_high i)),
         )
 
@@ -115,7 +115,7 @@ module _ (x : Heading) (ls rs cs ns : List ℕ) {h : Header} {b : Lent} {q : Ans
     unfolding StandsFor with_lists sheet_of
     stands_for out room (Refused r) e = tt
     stands_for out room (Built n k) e =
-        let t = built-text c n k e in
+        let t = built_text_lem c n k e in
         let w : n * x.nvp ≤ 1152 = le_trans (mul-le-mul_right x.nvp t.polygons) (mul-le-mul_left 96 t.most) in
         record { vertices = omega (arith, t.vertices); polygons = rw polygons w; links = rw links w; room = room }
 

@@ -6,7 +6,7 @@ use Rattle.rules.specs.Job.{Job}
 use Rattle.rules.specs.Checks.{Lent}
 use mathlib.Core.Path.{◌≡◌, sym, ◌∙◌}
 use Rattle.rules.specs.Checks.{lengths_of, check, passed}
-use Rattle.checks.specs.Answers.{job_of, is-passed, is-refusal}
+use Rattle.checks.specs.Answers.{job_of, is_passed, is_refusal}
 use Rattle.checks.specs.Sums.{v_is, t_is}
 use Rattle.outputs.specs.Ready.{buffers}
 use Rattle.polymesh.proofs.Meshes.{refused_all, few_contours, few_vertices, work_fits, admitted, build_ready, built_all}
@@ -31,34 +31,34 @@ unfolding lengths_of
 returns c =
     let s = c.before.before.before.before.before.before.before.before.before.before.before.before.before.before.before in
     refused_all s.args.header (job_of s.args.nvp s.args.w s.args.h s.args.border _ _ _ _) _
-    (is-refusal _ _ (sym (c.before.before.before.check.ensures s.args.w s.args.h s.args.border) ∙ c.before.r.given.1))
+    (is_refusal _ _ (sym (c.before.before.before.check.ensures s.args.w s.args.h s.args.border) ∙ c.before.r.given.1))
 
 enum_told : tie.Need-enum-told
 enum_told c = search rules
 
 count-v-requires : tie.Need-count-v-requires
-count-v-requires c κs = few_contours (job_of c.before.before.before.before.before.before.before.before.before.before.before.before.before.before.args.nvp 0 0 0 _ _ _ _) _ (is-passed _ (sym (c.before.before.check.ensures 0 0 0) ∙ c.enum_told.given.1))
+count-v-requires c κs = few_contours (job_of c.before.before.before.before.before.before.before.before.before.before.before.before.before.before.args.nvp 0 0 0 _ _ _ _) _ (is_passed _ (sym (c.before.before.check.ensures 0 0 0) ∙ c.enum_told.given.1))
 
 count-t-requires : tie.Need-count-t-requires
-count-t-requires c κs = few_contours (job_of c.before.before.before.before.before.before.before.before.before.before.before.before.before.before.before.args.nvp 0 0 0 _ _ _ _) _ (is-passed _ (sym (c.before.before.before.check.ensures 0 0 0) ∙ c.before.enum_told.given.1))
+count-t-requires c κs = few_contours (job_of c.before.before.before.before.before.before.before.before.before.before.before.before.before.before.before.args.nvp 0 0 0 _ _ _ _) _ (is_passed _ (sym (c.before.before.before.check.ensures 0 0 0) ∙ c.before.enum_told.given.1))
 
 work-words-requires : tie.Need-work-words-requires
 work-words-requires c κs =
     let j = job_of c.before.before.before.before.before.before.before.before.before.before.before.before.before.before.before.before.args.nvp 0 0 0 _ _ _ _ in
-    few_vertices j _ (is-passed _ (sym (c.before.before.before.before.check.ensures 0 0 0) ∙ c.before.before.enum_told.given.1)) (c.before.count-v.ensures ∙ sym (v_is j))
+    few_vertices j _ (is_passed _ (sym (c.before.before.before.before.check.ensures 0 0 0) ∙ c.before.before.enum_told.given.1)) (c.before.count-v.ensures ∙ sym (v_is j))
 
 slice-relend-prefix-build : tie.Need-slice-relend-prefix-build
 unfolding lengths_of
 slice-relend-prefix-build c =
     let s = c.before.before.before.before.before.before.before.before.before.before.before.before.before.before.before.before.before.before.before.before.before.before.before in
-    let p = is-passed _ (sym (c.before.before.before.before.before.before.before.before.before.before.before.check.ensures 0 0 0) ∙ c.before.before.before.before.before.before.before.before.before.enum_told.given.1) in
+    let p = is_passed _ (sym (c.before.before.before.before.before.before.before.before.before.before.before.check.ensures 0 0 0) ∙ c.before.before.before.before.before.before.before.before.before.enum_told.given.1) in
     work_fits (job s 0 0 0) (lent s) p (c.before.before.before.before.before.before.before.before.count-v.ensures ∙ sym (v_is (job s 0 0 0))) c.before.before.before.before.before.before.work-words.ensures
 
 slice-aggregate-build : tie.Need-slice-aggregate-build
 unfolding lengths_of
 slice-aggregate-build c =
     let s = c.before.before.before.before.before.before.before.before.before.before.before.before.before.before.before.before.before.before.before.before.before.before.before.before in
-    let p = is-passed _ (sym (c.before.before.before.before.before.before.before.before.before.before.before.before.check.ensures 0 0 0) ∙ c.before.before.before.before.before.before.before.before.before.before.enum_told.given.1) in
+    let p = is_passed _ (sym (c.before.before.before.before.before.before.before.before.before.before.before.before.check.ensures 0 0 0) ∙ c.before.before.before.before.before.before.before.before.before.before.enum_told.given.1) in
     sym (length-take-le _ s.args.work.now (work_fits (job s 0 0 0) (lent s) p (c.before.before.before.before.before.before.before.before.before.count-v.ensures ∙ sym (v_is (job s 0 0 0))) c.before.before.before.before.before.before.before.work-words.ensures))
 
 build-requires : tie.Need-build-requires
@@ -67,7 +67,7 @@ build-requires c κs =
     let s = c.before.before.before.before.before.before.before.before.before.before.before.before.before.before.before.before.before.before.before.before.before.before.before.before in
     let a = c.before.before.before.before.before.before.before.before.before.count-v.ensures in
     let t = c.before.before.before.before.before.before.before.before.count-t.ensures in
-    let p : (x y z : ℕ) → check (job s x y z) (lengths_of (lent s)) ≡ passed = λ x y z. is-passed (check (job s x y z) (lengths_of (lent s))) (sym (c.before.before.before.before.before.before.before.before.before.before.before.before.check.ensures x y z) ∙ c.before.before.before.before.before.before.before.before.before.before.enum_told.given.1) in
+    let p : (x y z : ℕ) → check (job s x y z) (lengths_of (lent s)) ≡ passed = λ x y z. is_passed (check (job s x y z) (lengths_of (lent s))) (sym (c.before.before.before.before.before.before.before.before.before.before.before.before.check.ensures x y z) ∙ c.before.before.before.before.before.before.before.before.before.before.enum_told.given.1) in
     let n = c.before.before.before.before.before.before.before.work-words.ensures in
     let l = length-take-le _ s.args.work.now (work_fits (job s 0 0 0) (lent s) (p 0 0 0) (a ∙ sym (v_is (job s 0 0 0))) n) ∙ n in
     let j = job s s.args.w s.args.h s.args.border in (
@@ -112,7 +112,7 @@ returns-2 c =
     let j = job s s.args.w s.args.h s.args.border in
     let a = c.before.before.before.before.before.before.before.before.before.before.before.before.before.before.before.before.before.before.before.before.before.before.before.before.count-v.ensures ∙ sym (v_is j) in
     let t = c.before.before.before.before.before.before.before.before.before.before.before.before.before.before.before.before.before.before.before.before.before.before.before.count-t.ensures ∙ sym (t_is j) in
-    let p = is-passed (check j (lengths_of (lent s))) (sym (c.before.before.before.before.before.before.before.before.before.before.before.before.before.before.before.before.before.before.before.before.before.before.before.before.before.before.before.check.ensures s.args.w s.args.h s.args.border) ∙ c.before.before.before.before.before.before.before.before.before.before.before.before.before.before.before.before.before.before.before.before.before.before.before.before.before.enum_told.given.1) in
+    let p = is_passed (check j (lengths_of (lent s))) (sym (c.before.before.before.before.before.before.before.before.before.before.before.before.before.before.before.before.before.before.before.before.before.before.before.before.before.before.before.check.ensures s.args.w s.args.h s.args.border) ∙ c.before.before.before.before.before.before.before.before.before.before.before.before.before.before.before.before.before.before.before.before.before.before.before.before.before.enum_told.given.1) in
     let n = c.before.before.before.before.before.before.before.before.before.before.before.before.before.before.before.before.before.before.before.before.before.before.work-words.ensures in
     let f = work_fits j (lent s) p a n in
     let m = length-take-le _ s.args.work.now f in
