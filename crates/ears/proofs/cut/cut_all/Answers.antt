@@ -12,12 +12,12 @@ cut_one-requires c = (c.loop-m.invariant.ready, omega arith, omega arith, omega 
 pub loop-m-preserved : goal.loop-m-preserved
 loop-m-preserved c =
     cuts_more c.loop-m.invariant c.requires.2 c.loop-m-test.true
-    (sym c.cut_one.ensures.0 ∙ c.if-cut_one.true) c.cut_one.ensures.1
+    (sym c.cut_one.ensures.found ∙ c.if-cut_one.true) c.cut_one.ensures.words
 
 pub returns-else-cut_one : goal.returns-else-cut_one
 returns-else-cut_one c =
     cuts_stuck c.loop-m.invariant c.requires.2 c.loop-m-test.true
-    (sym c.cut_one.ensures.0 ∙ c.if-cut_one.false) c.cut_one.ensures.1
+    (sym c.cut_one.ensures.found ∙ c.if-cut_one.false) c.cut_one.ensures.words
 
 pub returns : goal.returns
 returns c =

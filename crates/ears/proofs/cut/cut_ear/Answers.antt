@@ -1,8 +1,8 @@
 -- `ears::cut::cut_ear` meets its contract: the gap is closed in the lent part, and what is left of the words is ready to be marked. Assumes nothing.
 use mathlib.Core.Path.{◌≡◌, ◌∙◌}
 use mathlib.Core.Bool.{cond}
-use mathlib.Core.List.{List, [], ◌∷◌, ◌++◌}
-use Prim.Native.Nat.{ℕ, ◌+◌, ◌-◌, ◌<◌}
+use mathlib.Core.List.{[], ◌∷◌, ◌++◌}
+use Prim.Native.Nat.{◌+◌, ◌-◌, ◌<◌}
 use native.Mathlib.Omega.{arith}
 use borrow.Author.Tests.{lt-ltb, le-ltb}
 use lib.Dec.{ltb}
@@ -18,35 +18,6 @@ use Rattle.ears.proofs.cut.cut_ear.Goals.{then-k-n, else-k-n}
 
 -- `ears::cut::cut_ear` meets its contract: the gap is closed in the lent part, and what is left of the words is ready to be marked. Assumes nothing.
 
--- at the closing of the gap: the buffer before it, where its words stand, how many they are, and which one goes
-abbrev buffer : goal.After-w-1 → List ℕ
-buffer c = c.args.w.now
-
-abbrev from : goal.After-w-1 → ℕ
-from c = c.args.a
-
-abbrev count : goal.After-w-1 → ℕ
-count c = c.args.m
-
-abbrev gap : goal.After-w-1 → ℕ
-gap c = c.next-k.result
-
--- the buffer once it is closed
-closed : (c : goal.After-w-1)
-    → take (from c) (buffer c) ++ (c.close_gap.new.ix ++ drop (from c + count c - from c) (drop (from c) (buffer c)))
-    ≡ splice (buffer c) (from c) (without (view (buffer c) (from c) (count c)) (gap c) ++ (0 ∷ []))
-closed c =
-    let e : from c + count c - from c ≡ count c = omega arith in
-    lent_part (λ l. without l (gap c) ++ (0 ∷ [])) (buffer c) c.close_gap.new.ix (from c) _ _ e
-    c.close_gap.ensures c.close_gap.auto.ix c.requires.0.room
-
--- the place after it
-after-gap : (c : goal.Joined-k-n) → c.if-k-n.i1 ≡ cond (ltb (gap c.before.before) (count c.before.before - 1)) (gap c.before.before) 0
-after-gap c = elim c.if-k-n.branch [ then-k-n w ↦ w.i1-is ∙ rw (lt-ltb _ _ w.if-k-n.true) | else-k-n w ↦ w.i1-is ∙ rw (le-ltb _ _ w.if-k-n.false) ]
-
-after-below : (c : goal.Joined-k-n) → c.if-k-n.i1 < count c.before.before - 1
-after-below c = elim c.if-k-n.branch [ then-k-n w ↦ omega arith | else-k-n w ↦ omega arith ]
-
 pub close_gap-requires : goal.close_gap-requires
 close_gap-requires c =
     let e : c.args.a + c.args.m - c.args.a ≡ c.args.m = omega arith in
@@ -54,14 +25,24 @@ close_gap-requires c =
 
 pub remark_gap-requires : goal.remark_gap-requires
 remark_gap-requires c =
-    let h = after-below c.before.before in
+    let closed : take (c.args.a) (c.args.w.now) ++ (c.close_gap.new.ix ++ drop (c.args.a + c.args.m - c.args.a) (drop (c.args.a) (c.args.w.now)))
+    ≡ splice (c.args.w.now) (c.args.a) (without (view (c.args.w.now) (c.args.a) (c.args.m)) (c.next-k.result) ++ (0 ∷ [])) = let e : c.args.a + c.args.m - c.args.a ≡ c.args.m = omega arith in
+    lent_part (λ l. without l (c.next-k.result) ++ (0 ∷ [])) (c.args.w.now) c.close_gap.new.ix (c.args.a) _ _ e
+    c.close_gap.ensures c.close_gap.auto.ix c.requires.0.room in
+    let after-below : c.if-k-n.i1 < c.args.m - 1 = elim c.if-k-n.branch [ then-k-n w ↦ omega arith | else-k-n w ↦ omega arith ] in
+    let h = after-below in
     (
-      gap_ready _ _ _ _ c.requires.0 c.requires.1 c.next-k.ensures (closed c.before.before.before.before),
+      gap_ready _ _ _ _ c.requires.0 c.requires.1 c.next-k.ensures (closed),
       rw c.prev.ensures (prev_below _ _ h),
       h,
     )
 
 pub returns : goal.returns
 returns c =
-    ear_cut _ _ _ _ c.requires.0 c.requires.1 c.next-k.ensures (closed c.before.before.before.before.before.before.before)
-    (after-gap c.before.before.before.before.before) c.prev.ensures c.remark_gap.ensures
+    let closed : take (c.args.a) (c.args.w.now) ++ (c.close_gap.new.ix ++ drop (c.args.a + c.args.m - c.args.a) (drop (c.args.a) (c.args.w.now)))
+    ≡ splice (c.args.w.now) (c.args.a) (without (view (c.args.w.now) (c.args.a) (c.args.m)) (c.next-k.result) ++ (0 ∷ [])) = let e : c.args.a + c.args.m - c.args.a ≡ c.args.m = omega arith in
+    lent_part (λ l. without l (c.next-k.result) ++ (0 ∷ [])) (c.args.w.now) c.close_gap.new.ix (c.args.a) _ _ e
+    c.close_gap.ensures c.close_gap.auto.ix c.requires.0.room in
+    let after-gap : c.if-k-n.i1 ≡ cond (ltb (c.next-k.result) (c.args.m - 1)) (c.next-k.result) 0 = elim c.if-k-n.branch [ then-k-n w ↦ w.i1-is ∙ rw (lt-ltb _ _ w.if-k-n.true) | else-k-n w ↦ w.i1-is ∙ rw (le-ltb _ _ w.if-k-n.false) ] in
+    ear_cut _ _ _ _ c.requires.0 c.requires.1 c.next-k.ensures (closed)
+    (after-gap) c.prev.ensures c.remark_gap.ensures

@@ -19,12 +19,9 @@ cut_ear-requires c =
 
 pub returns-then-ear : goal.returns-then-ear
 returns-then-ear c =
-    let any = c.if-ear.true in (
-      sym any ∙ ap (λ (x : Ear). x.any) c.ear_in-ear.ensures,
-      turned _ _ _ _ c.requires.0 c.ear_in-ear.ensures c.requires.2 any c.put_triangle.ensures c.cut_ear.ensures,
-    )
+    let any = c.if-ear.true in record { found = sym any ∙ ap (λ (x : Ear). x.any) c.ear_in-ear.ensures; words = turned _ _ _ _ c.requires.0 c.ear_in-ear.ensures c.requires.2 any c.put_triangle.ensures c.cut_ear.ensures }
 
 pub returns-else-ear : goal.returns-else-ear
 returns-else-ear c =
     let e = c.ear_in-ear.ensures in
-    (sym c.if-ear.false ∙ ap (λ (x : Ear). x.any) e, still _ _ _ _ c.requires.0 e c.if-ear.false)
+    record { found = sym c.if-ear.false ∙ ap (λ (x : Ear). x.any) e; words = still _ _ _ _ c.requires.0 e c.if-ear.false }

@@ -7,30 +7,35 @@ use Rattle.laws.specs.Ring.{next_below}
 use Rattle.ears.proofs.Parts.{triangle_put}
 use Rattle.ears.proofs.cut.put_triangle.Goals as goal
 
--- the places of the second and the third word
-second : (c : goal.After-next-i1) → c.next-i1.result < c.args.m
-second c = rw c.next-i1.ensures (next_below _ _ (omega arith))
-
-third : (c : goal.After-next-i2) → c.next-i2.result < c.args.m
-third c = rw c.next-i2.ensures (next_below _ _ (omega arith))
-
 pub overflow_add-a-2 : goal.overflow_add-a-2
-overflow_add-a-2 c = let h = second c.before.before.before in search rules
+overflow_add-a-2 c =
+    let second : c.next-i1.result < c.args.m = rw c.next-i1.ensures (next_below _ _ (omega arith)) in
+    let h = second in search rules
 
 pub offset_bounds-w-a-2 : goal.offset_bounds-w-a-2
-offset_bounds-w-a-2 c = let h = second c.before.before.before in search rules
+offset_bounds-w-a-2 c =
+    let second : c.next-i1.result < c.args.m = rw c.next-i1.ensures (next_below _ _ (omega arith)) in
+    let h = second in search rules
 
 pub bounds-w-a-2 : goal.bounds-w-a-2
-bounds-w-a-2 c = let h = second c.before.before.before.before in search rules
+bounds-w-a-2 c =
+    let second : c.next-i1.result < c.args.m = rw c.next-i1.ensures (next_below _ _ (omega arith)) in
+    let h = second in search rules
 
 pub overflow_add-a-3 : goal.overflow_add-a-3
-overflow_add-a-3 c = let h = third c.before.before.before.before in search rules
+overflow_add-a-3 c =
+    let third : c.next-i2.result < c.args.m = rw c.next-i2.ensures (next_below _ _ (omega arith)) in
+    let h = third in search rules
 
 pub offset_bounds-w-a-3 : goal.offset_bounds-w-a-3
-offset_bounds-w-a-3 c = let h = third c.before.before.before.before in search rules
+offset_bounds-w-a-3 c =
+    let third : c.next-i2.result < c.args.m = rw c.next-i2.ensures (next_below _ _ (omega arith)) in
+    let h = third in search rules
 
 pub bounds-w-a-3 : goal.bounds-w-a-3
-bounds-w-a-3 c = let h = third c.before.before.before.before.before in search rules
+bounds-w-a-3 c =
+    let third : c.next-i2.result < c.args.m = rw c.next-i2.ensures (next_below _ _ (omega arith)) in
+    let h = third in search rules
 
 pub bounds-w-t-2 : goal.bounds-w-t-2
 bounds-w-t-2 c = simp length-set (omega arith)

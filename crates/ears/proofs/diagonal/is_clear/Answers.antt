@@ -15,31 +15,6 @@ use Rattle.ears.proofs.Rings.{first_grid, second_grid}
 use Rattle.ears.proofs.Stops.{side_at, no_side_lem}
 use Rattle.ears.proofs.diagonal.is_clear.Goals as goal
 
--- the call, seen from the loop; and the loop, seen from where its turn has looked at the side
-abbrev call : goal.At-loop-k → goal.Start
-call c = c.before.before.before.before.before.before.before
-
-abbrev standing : goal.After-does_stop → goal.At-loop-k
-standing c = c.before.before.before.before
-
--- the ring has so many places as a word can count
-long : (c : goal.At-loop-k) → Fits w64 (length (call c).args.ix.now)
-long c = search rules
-
--- place k is in the ring
-in-ring : (c : goal.After-does_stop) → (standing c).loop.k < length (call (standing c)).args.ix.now
-in-ring c = c.if-n-k.false
-
--- what was found is whether the side at place k stops the diagonal
-found-is : (c : goal.After-does_stop)
-    → let s = (call (standing c)).args in
-    c.does_stop.result ≡ stops s.kind (point_at (points_in s.pts.now) s.ix.now) (length s.ix.now) s.i s.j (standing c).loop.k
-found-is c =
-    let s = call (standing c) in
-    c.does_stop.ensures
-    ∙ side_at s.args.kind (standing c).loop.k s.pre.1 c.next-l.ensures
-    ((standing c).loop.invariant.1 (in-ring c)) c.corner-d.ensures.0
-
 pub returns-then-leaves_no_side : goal.returns-then-leaves_no_side
 returns-then-leaves_no_side c =
     no_side_lem c.args.kind _ (length c.args.ix.now) c.args.i c.args.j c.requires.1.i_in c.leaves_no_side.ensures c.if-leaves_no_side.true
@@ -52,28 +27,35 @@ unfolding is_blocked
 loop-k-init c = (record { same = refl }, λ _. c.corner-c.ensures.0, c.corner-c.ensures.1)
 
 pub corner-d-requires : goal.corner-d-requires
-corner-d-requires c = ((call c.before.before).pre.0, rw c.next-l.ensures (next_below _ _ (omega (arith, c.if-n-k.false))))
+corner-d-requires c = (c.requires.0, rw c.next-l.ensures (next_below _ _ (omega (arith, c.if-n-k.false))))
 
 pub does_stop-requires : goal.does_stop-requires
 does_stop-requires c =
-    let s = call c.before.before.before in (
-      first_grid s.pre.0 s.pre.1,
-      second_grid s.pre.0 s.pre.1,
+    (
+      first_grid c.requires.0 c.requires.1,
+      second_grid c.requires.0 c.requires.1,
       c.loop-k.invariant.2,
       c.corner-d.ensures.1,
       c.bounds_of-t.ensures,
     )
 
 pub overflow_add-k : goal.overflow_add-k
-overflow_add-k c = record { fits = omega (arith, (long (standing c.before)).fits, in-ring c.before) }
+overflow_add-k c =
+    let long : Fits w64 (length c.args.ix.now) = search rules in
+    let in-ring : c.loop-k.k < length c.args.ix.now = c.if-n-k.false in
+    record { fits = omega (arith, (long).fits, in-ring) }
 
 pub loop-k-preserved : goal.loop-k-preserved
 loop-k-preserved c =
-    let now = standing c.before in
-    let s = call now in (
-      next now.loop.inv.0 (in-ring c.before) (λ r. ap (λ (t : Bool). t || r) (sym (found-is c.before) ∙ c.if-does_stop.false)),
-      λ (h : now.loop.k + 1 < length s.args.ix.now).
-          c.corner-d.ensures.0 ∙ ap (point_at (points_in s.args.pts.now) s.args.ix.now) (c.next-l.ensures ∙ next_in _ _ h),
+    let in-ring : c.loop-k.k < length c.args.ix.now = c.if-n-k.false in
+    let found-is : let s = c.args in
+    c.does_stop.result ≡ stops s.kind (point_at (points_in s.pts.now) s.ix.now) (length s.ix.now) s.i s.j c.loop-k.k = c.does_stop.ensures
+    ∙ side_at c.args.kind c.loop-k.k c.requires.1 c.next-l.ensures
+    (c.loop-k.invariant.1 (in-ring)) c.corner-d.ensures.0 in
+    (
+      next c.loop-k.invariant.0 (in-ring) (λ r. ap (λ (t : Bool). t || r) (sym (found-is) ∙ c.if-does_stop.false)),
+      λ (h : c.loop-k.k + 1 < length c.args.ix.now).
+          c.corner-d.ensures.0 ∙ ap (point_at (points_in c.args.pts.now) c.args.ix.now) (c.next-l.ensures ∙ next_in _ _ h),
       c.corner-d.ensures.1,
     )
 
@@ -82,5 +64,9 @@ returns-then-n-k c = sym (end c.loop-k.invariant.0 c.if-n-k.true)
 
 pub returns-then-does_stop : goal.returns-then-does_stop
 returns-then-does_stop c =
-    let now = standing c.before in
-    sym (rw (sym (found-is c.before) ∙ c.if-does_stop.true) at (turn now.loop.inv.0 (in-ring c.before)))
+    let in-ring : c.loop-k.k < length c.args.ix.now = c.if-n-k.false in
+    let found-is : let s = c.args in
+    c.does_stop.result ≡ stops s.kind (point_at (points_in s.pts.now) s.ix.now) (length s.ix.now) s.i s.j c.loop-k.k = c.does_stop.ensures
+    ∙ side_at c.args.kind c.loop-k.k c.requires.1 c.next-l.ensures
+    (c.loop-k.invariant.1 (in-ring)) c.corner-d.ensures.0 in
+    sym (rw (sym (found-is) ∙ c.if-does_stop.true) at (turn c.loop-k.invariant.0 (in-ring)))

@@ -7,15 +7,15 @@ use Rattle.rules.specs.Ears.{is_cuttable}
 use Rattle.laws.specs.Ring.{next_below}
 use Rattle.ears.proofs.search.is_cuttable.Goals as goal
 
--- the place after i
-place : (c : goal.After-next-i1) → c.next-i1.result < length c.args.ix.now
-place c = rw c.next-i1.ensures (next_below _ _ (omega arith))
-
 pub offset_bounds-ix-i1 : goal.offset_bounds-ix-i1
-offset_bounds-ix-i1 c = let h = place c.before.before in search rules
+offset_bounds-ix-i1 c =
+    let place : c.next-i1.result < length c.args.ix.now = rw c.next-i1.ensures (next_below _ _ (omega arith)) in
+    let h = place in search rules
 
 pub bounds-ix-i1 : goal.bounds-ix-i1
-bounds-ix-i1 c = let h = place c.before.before.before in search rules
+bounds-ix-i1 c =
+    let place : c.next-i1.result < length c.args.ix.now = rw c.next-i1.ensures (next_below _ _ (omega arith)) in
+    let h = place in search rules
 
 pub is_diagonal-requires : goal.is_diagonal-requires
 is_diagonal-requires c =
