@@ -16,9 +16,8 @@ overflow_sub-first c = left_place c.loop-rest.invariant (omega arith)
 pub loop-rest-preserved : goal.loop-rest-preserved
 loop-rest-preserved c = left_more c.loop-rest.invariant _ (omega arith) refl
 
--- TODO need slice-bounds-put-text-end
-part-put-text-end : tie.Need-slice-bounds-put-text-end invariant-loop decreases-loop
-part-put-text-end c = omega (arith, length-set c.before.before.before.loop.digits c.before.before.before.loop.first (48 + c.before.before.before.loop.rest), c.before.before.before.loop.invariant.long)
+pub slice_bounds-put_text-end : goal.slice_bounds-put_text-end
+slice_bounds-put_text-end c = omega (arith, length-set c.loop-rest.digits c.loop-rest.first (48 + c.loop-rest.rest), c.loop-rest.invariant.long)
 
 pub put_text-requires : goal.put_text-requires
 put_text-requires c = rw (left_end c.loop-rest.invariant _ (omega arith) refl) c.requires

@@ -30,7 +30,7 @@ pub returns-then-z-lt0 : goal.returns-then-z-lt0
 returns-then-z-lt0 c = let l = (below c.ranges.z refl c.if-z-lt0.true) in printed_as (printed_then (printed_one _ _ 45) (rw l.reads at c.put_decimal.ensures)) (sym l.text)
 
 pub shape_of-out-then-z-lt0 : goal.shape_of-out-then-z-lt0
-shape_of-out-then-z-lt0 c = printed_same_length (returns c)
+shape_of-out-then-z-lt0 c = printed_same_length (returns-then-z-lt0 c)
 
 pub overflow_cast-z-2 : goal.overflow_cast-z-2
 overflow_cast-z-2 c = let l = (not_below c.ranges.z refl c.if-z-lt0.false) in rw l.reads (tt, search rules)
@@ -42,4 +42,4 @@ pub returns : goal.returns
 returns c = let l = (not_below c.ranges.z refl c.if-z-lt0.false) in printed_as (rw l.reads at c.put_decimal-2.ensures) (sym l.text)
 
 pub shape_of-out : goal.shape_of-out
-shape_of-out c = printed_same_length (returns-2 c)
+shape_of-out c = printed_same_length (returns c)
