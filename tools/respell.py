@@ -76,15 +76,16 @@ def respelled(code, table, fields, modules):
     """antt text with the new names; behind a dot of a value only fields are turned."""
 
     def turn(m):
-        before, name = m[1], m[2]
-        new = table.get(name)
-        if new is None or before[:-1] in modules:
-            return m[0]
-        if before.endswith(".") and not re.search(r"[A-Z][^\s(){}.;,@\"«»]*\.$", before):
-            return before + new if name in fields else m[0]
-        return before + new
+        steps = m[0].split(".")
+        module = steps[0] == "" and re.match(r"[A-Z]", steps[1])
+        for i, name in enumerate(steps):
+            behind_value = i > 0 and not module
+            if name in table and not (behind_value and name not in fields) and not (i > 0 and steps[i - 1] in modules):
+                steps[i] = table[name]
+            module = bool(re.match(r"[A-Z]", name))
+        return ".".join(steps)
 
-    return re.sub(rf"((?:{NAME})?\.|\)\.|(?<![^\s(){{}};,@«»]))({NAME})", turn, code)
+    return re.sub(rf"\.?{NAME}(?:\.{NAME})*", turn, code)
 
 
 def of_libraries(text):

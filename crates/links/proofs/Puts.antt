@@ -63,7 +63,7 @@ module _ (w : List ℕ) (t : EdgeTables) (nv ne : ℕ) (s : Edged w t nv ne) whe
     put_steps {y} ey =
         let R = edge_records es in
         let l : length R ≡ ne * edge_size = fixed_length edge_fixed es ∙ ap (λ (k : ℕ). k * edge_size) many in
-        let six : length (edge_words e) ≡ edge_size = edge-fixed.sized e in
+        let six : length (edge_words e) ≡ edge_size = edge_fixed.sized e in
         let more : length (es ++ (e ∷ [])) ≡ ne + 1 = length-append es (e ∷ []) ∙ ap (λ (k : ℕ). k + 1) many in
         let words : edge_records (es ++ (e ∷ [])) ≡ R ++ edge_words e =
         fixed_append edge_fixed es (e ∷ []) ∙ ap (λ (k : List ℕ). R ++ k) (fixed_one edge_fixed e) in

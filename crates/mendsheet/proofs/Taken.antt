@@ -34,7 +34,7 @@ module _ {w : Read Sheet} {x : Heading} {c v : ℕ} {ls rs cs ns : List ℕ} (a 
       }
 
   pub losses_asked : {out : List ℕ} → length out ≡ out_most → LossesReady (take c ls) (take c ls) (take (v * job_stride) ns) out
-  losses_asked h = record { few = from-sheet.few; sheet = from_sheet; room = omega arith }
+  losses_asked h = record { few = from_sheet.few; sheet = from_sheet; room = omega arith }
 
 module _ (t : List ℕ) {x : Heading} {c v : ℕ} {ls rs cs ns : List ℕ} (a : TakenAs (read_bytes t) x c v ls rs cs ns) where
   pub mend_text_lem : mended_text x (take c ls) (take c rs) (take c cs) (take (v * job_stride) ns) ≡ mend_text t

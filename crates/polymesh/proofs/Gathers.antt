@@ -97,8 +97,8 @@ module _ {u₀ : List ℕ} {v t : ℕ} {j : Job} (r : Ready u₀ v t j) where
     most = r.job.passed.nvp_high;
     vertices = omega (arith, b.vertices, r.job.vertices);
     spares = omega (arith, b.spares, r.job.triangles);
-    v_few = omega (arith, ready-sized.v_most);
-    t_few = omega (arith, ready-sized.v_most, ready-sized.t_most);
+    v_few = omega (arith, ready_sized.v_most);
+    t_few = omega (arith, ready_sized.v_most, ready_sized.t_most);
   }
 
   -- the buffer is blank
@@ -112,7 +112,7 @@ module _ {u₀ : List ℕ} {v t : ℕ} {j : Job} (r : Ready u₀ v t j) where
           vertices = omega arith;
           nexts = omega arith;
           polygons = omega arith;
-          scratch = omega (arith, l, r.size, ready-sized.t_most);
+          scratch = omega (arith, l, r.size, ready_sized.t_most);
         };
         ls = r.job.ls;
         passed = r.job.passed;
@@ -185,7 +185,7 @@ module _ {u₀ : List ℕ} {v t : ℕ} {j : Job} (r : Ready u₀ v t j) where
         unfolding remove_all o
         left_balanced =
             removals (length m.vertices) j.nvp 0 (job_area j) (count_t j) (count_v j) m [] left.mesh left.log r.job.passed.nvp_low
-            (omega (arith, r.job.vertices, r.job.triangles, ready-sized.v_most, ready-sized.t_most)) (omega arith) balanced left.is
+            (omega (arith, r.job.vertices, r.job.triangles, ready_sized.v_most, ready_sized.t_most)) (omega arith) balanced left.is
 
         left_in : u₂ ≡ mesh_in u₁ (site_of v t) o
         unfolding mesh_left o

@@ -75,7 +75,7 @@ module _ {u : List ℕ} {v t : ℕ} {n : Counts} (r : LinkableReady u v t n) whe
   polygons_end = omega (arith, few)
 
   links_end : link_place_of v t + n.polygons * link_size ≤ length u
-  links_end = link-ready.links
+  links_end = link_ready.links
 
   -- y are the words after R6
   module _ {y : List ℕ}

@@ -78,7 +78,7 @@ module _ {w : List ℕ} {o np nvp : ℕ} {m : Pair} (ready : JoinReady w o np nv
         let j : r ≡ to_poly (joined_at (polygons_at w o np) m) = rw (loaded_of lp, loaded_of lq) at lr.is in
         e₁ ∙ ap (splice w (o + m.a * polygon_size)) (stored_words (joined_at (polygons_at w o np) m) j)
         ∙ put_are w o np (polygons_at w o np) ready.tidy.is (length_polygons w o np) ready.small ready.fits m.a
-        (joined_at (polygons_at w o np) m) small_joined both-in.0
+        (joined_at (polygons_at w o np) m) small_joined both_in.0
 
     are_first : polygons_at w₁ o np ≡ first (polygons_at w o np) m
     are_first = polygons_are w o np (first (polygons_at w o np) m) stored_first long_first small_first ready.fits
@@ -98,7 +98,7 @@ module _ {w : List ℕ} {o np nvp : ℕ} {m : Pair} (ready : JoinReady w o np nv
         let small : Every Small no_polygon (qs ++ (no_polygon ∷ [])) =
         every_append Small no_polygon qs (no_polygon ∷ []) (rw join_first at (every_swap Small no_polygon (first (polygons_at w o np) m) m.b small_first)) (blanks_small 1) in
         let long : length (qs ++ (no_polygon ∷ [])) ≡ np =
-        simp length-append (omega (arith, length_join (polygons_at w o np) m, length_polygons w o np, both-in.1)) in
+        simp length-append (omega (arith, length_join (polygons_at w o np) m, length_polygons w o np, both_in.1)) in
         e₂ ∙ rw (are_first, join_first (polygons_at w o np) m, stored_first)
         (splice_over w o (polygon_records (first (polygons_at w o np) m)) (polygon_records (qs ++ (no_polygon ∷ [])))
         (omega (arith, length_records (first (polygons_at w o np) m) small_first, long_first, length_records (qs ++ (no_polygon ∷ [])) small, long)))
@@ -171,7 +171,7 @@ module _ {w₀ : List ℕ} {vo nv o np nvp : ℕ} (ready : MergeReady w₀ vo nv
 
       pub join_ready : 0 < m.length → JoinReady w o n nvp m
       join_ready h = record {
-        fits = ready-now.fits;
+        fits = ready_now.fits;
         tidy = blanked_tidy w₀ o np ready.ready.fits g.left;
         small = rw are g.left.small;
         joinable = rw are (joinable h);

@@ -198,7 +198,7 @@ module _ {w₀ : List ℕ} {vo nv o np nvp ro : ℕ} (rows₀ : RowsReady w₀ v
 
         pub going_more : {u : List ℕ} → length u ≡ length v → KeptIf v u vo nv o (n - 1) nvp ro t → Going w₀ vo nv o np nvp ro t u (n - 1)
         going_more {u} k f = record {
-          joining = rw (wiped_alike v u ro (n - 1) np joining-on.left.within f.same) joining_on;
+          joining = rw (wiped_alike v u ro (n - 1) np joining_on.left.within f.same) joining_on;
           kept = f.rows;
           size = k ∙ l ∙ g.size;
         }
@@ -246,7 +246,7 @@ module _ {w₀ : List ℕ} {vo nv o np nvp ro : ℕ} (rows₀ : RowsReady w₀ v
     pub kept_tidy : Tidy w o np
     kept_tidy =
         tidy_under (ready_under rows₀ ro (replicate (np * row_size) 0) (omega arith) (k.same ∙ wiped_is w₀ ro np)) (view w ro (np * row_size))
-        (wiped_back w ro np (omega (arith, l, rows₀.room))) (rw k.same wiped-ready.tidy)
+        (wiped_back w ro np (omega (arith, l, rows₀.room))) (rw k.same wiped_ready.tidy)
 
     pub merged_rows : {u : List ℕ} (v : List ℕ) {r : ℕ} → MergedTo (wiped w ro np) (wiped v ro np) vo nv o np nvp r
         → u ≡ splice v ro (replicate (np * row_size) 0) → MergedOver w₀ u vo nv o np nvp ro r

@@ -237,8 +237,8 @@ module _ {w : List ℕ} {s : Site} {n : Counts} {nvp rem : ℕ} (r : RemoveReady
           → z ≡ mesh_in w s (mesh_after (remove_vertex nvp rem (mesh_at w s n)))
       unfolding mesh_after mesh_in
       empty_words q =
-          let a = anew_vertices f empty_stage [] (s.v * vertex_size) refl (omega (arith, empty-stage.vertices)) (omega arith) in
-          let b = anew_polygons f a [] (s.t * polygon_size) refl (omega (arith, empty-stage.polygons)) (omega arith) in
+          let a = anew_vertices f empty_stage [] (s.v * vertex_size) refl (omega (arith, empty_stage.vertices)) (omega arith) in
+          let b = anew_polygons f a [] (s.t * polygon_size) refl (omega (arith, empty_stage.polygons)) (omega arith) in
           let i = fixed_length point_fixed hole in
           let d = anew_scratch f b [] (h.points * point_size) q (omega (arith, points)) (omega (arith, least, most)) in
           d.is ∙ rw (nothing, no_vertices, no_polygons)

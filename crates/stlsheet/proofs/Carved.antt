@@ -68,7 +68,7 @@ module _ {s : Sheet} {h : Header} {b : Lent} {q : Answer} {u : Lent} (c : Called
     mesh_built = was_built (outcome s.job b) n k (sym e ∙ replied c)
 
     -- at most 96 polygons of 12 corners: ten facets each
-    few_facets : facet_count mesh-built.mesh.polygons ≤ 960
+    few_facets : facet_count mesh_built.mesh.polygons ≤ 960
     unfolding facet_count
     few_facets =
         let a = mesh_built in
@@ -83,7 +83,7 @@ module _ {s : Sheet} {h : Header} {b : Lent} {q : Answer} {u : Lent} (c : Called
         )
 
     -- what is handed on from the buffers is what the rules say of them
-    handed : let m = mesh-built.mesh in handed_on s.job.nvp (exits s.job b) (length m.polygons) (length m.vertices) ≡ handed_on s.job.nvp u n k
+    handed : let m = mesh_built.mesh in handed_on s.job.nvp (exits s.job b) (length m.polygons) (length m.vertices) ≡ handed_on s.job.nvp u n k
     handed = same_handed s.job.nvp (sym c.left) (sym mesh-built.polygons) (sym mesh-built.vertices)
 
     built_file : let m = handed_on s.job.nvp u n k in let scale = scale_of s.inches s.size s.height in

@@ -29,14 +29,14 @@ sides_used_lem v n i f h =
     let z : 0 + i * side_size ≡ i * side_size = omega arith in
     sym (fixed_take side_fixed (splice v (i * side_size) (side_words s)) 0 n (n - 1) (omega arith))
     ∙ rw (length_blocks side_in v 0 side_size n, ← z)
-    (ap (take (n - 1)) (blocks_set side_in v 0 side_size n i (side_words s) (side-fixed.sized s) (omega arith) h ∙ rw (side-fixed.back s)))
+    (ap (take (n - 1)) (blocks_set side_in v 0 side_size n i (side_words s) (side_fixed.sized s) (omega arith) h ∙ rw (side_fixed.back s)))
 
 -- ---- points
 
 -- a side written before them
 pub points_kept : (w : List ℕ) (p o n : ℕ) (s : Side) → p + side_size ≤ o → points_at (splice w p (side_words s)) o n ≡ points_at w o n
 unfolding points_at
-points_kept w p o n s h = blocks_before point_in w p o point_size n (side_words s) (omega (arith, side-fixed.sized s))
+points_kept w p o n s h = blocks_before point_in w p o point_size n (side_words s) (omega (arith, side_fixed.sized s))
 
 module _ (w : List ℕ) (c : ChainPoint) where
   pub point_front : (o p n : ℕ) → p + point_size ≡ o → o ≤ length w → points_at (splice w p (point_words c)) p (n + 1) ≡ c ∷ points_at w o n
@@ -44,19 +44,19 @@ module _ (w : List ℕ) (c : ChainPoint) where
   point_front o p n e h =
       blocks_cons point_in (splice w p (point_words c)) p point_size n
       ∙ rw (
-        view_same w p point_size (point_words c) (point-fixed.sized c) (omega arith),
-        point-fixed.back c,
+        view_same w p point_size (point_words c) (point_fixed.sized c) (omega arith),
+        point_fixed.back c,
         e,
-        blocks_before point_in w p o point_size n (point_words c) (omega (arith, point-fixed.sized c)),
+        blocks_before point_in w p o point_size n (point_words c) (omega (arith, point_fixed.sized c)),
       )
 
   pub point_back : (o n : ℕ) → o + n * point_size + point_size ≤ length w
       → points_at (splice w (o + n * point_size) (point_words c)) o (n + 1) ≡ points_at w o n ++ (c ∷ [])
   unfolding points_at
-  point_back o n h = blocks_push point_in w o point_size n (point_words c) (point-fixed.sized c) h ∙ rw (point-fixed.back c)
+  point_back o n h = blocks_push point_in w o point_size n (point_words c) (point_fixed.sized c) h ∙ rw (point_fixed.back c)
 
   pub point_first : (o : ℕ) → o + point_size ≤ length w → points_at (splice w o (point_words c)) o 1 ≡ c ∷ []
   unfolding points_at blocks tab
   point_first o h =
       let z : o + 0 * point_size ≡ o = omega arith in
-      rw (z, view_same w o point_size (point_words c) (point-fixed.sized c) h, point-fixed.back c)
+      rw (z, view_same w o point_size (point_words c) (point_fixed.sized c) h, point_fixed.back c)

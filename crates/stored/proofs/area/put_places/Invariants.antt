@@ -1,0 +1,12 @@
+-- `stored::area::put_places` meets its contract. The loop's invariant is `Placed`: the words of the places so far are written. The measure is what is left of
+-- the corners. Assumes nothing.
+use Prim.Native.Nat.{◌-◌}
+use lib.ListN.{length}
+use Rattle.stored.proofs.Places.{Placed}
+use Rattle.stored.proofs.area.put_places.Given as goal
+
+abbrev pub invariant-loop-c : goal.invariant-loop-c
+invariant-loop-c l = Placed l.vertices l.corners l.initial.pts l.pts l.c
+
+abbrev pub decreases-loop-c : goal.decreases-loop-c
+decreases-loop-c l = length l.corners - l.c
