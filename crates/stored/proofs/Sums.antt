@@ -5,7 +5,7 @@ use mathlib.Core.List.{List, [], ◌∷◌, map}
 use Prim.Native.Nat.{ℕ, ◌+◌, ◌*◌, ◌≤◌, ◌<◌}
 use native.Mathlib.Nat.{add-zero}
 use native.Mathlib.Omega.{arith}
-use lib.IntN.{ℤ, ◌+ℤ◌}
+use lib.IntN.{ℤ, pos, ◌+ℤ◌}
 use lib.ListN.{length, get_or}
 use mir.Syntax.{w64}
 use mir.Val.{SFits, to_z, of_z}
@@ -80,20 +80,20 @@ module _ {nvp n k : ℕ} {vs ps : List ℕ} (g : MeshReady nvp n k vs ps) (i : �
       ∙ ap (λ (l : List Point). stored_area (stored_in nvp i k vs ps) +ℤ area l) places_same
 
 -- ---- the loop's invariant: s are the bits of the sum where the turn i begins
-pub record Summed (nvp n k : ℕ) (vs ps : List ℕ) (s i : ℕ) : Type 0 where
+pub record Summed (nvp n k : ℕ) (vs ps : List ℕ) (s : ℤ) (i : ℕ) : Type 0 where
   pub within : i ≤ n
-  pub same : to_z w64 s ≡ stored_area (stored_in nvp i k vs ps)
-  pub size : Within (i * 25768230936) (to_z w64 s)
+  pub same : s ≡ stored_area (stored_in nvp i k vs ps)
+  pub size : Within (i * 25768230936) s
 
-pub summed_none : (nvp n k : ℕ) (vs ps : List ℕ) → Summed nvp n k vs ps 0 0
+pub summed_none : (nvp n k : ℕ) (vs ps : List ℕ) → Summed nvp n k vs ps (pos 0) 0
 unfolding stored_area stored_in decoded sum_of tab
 summed_none nvp n k vs ps = record { within = omega arith; same = refl; size = within_pos (omega arith) }
 
-pub summed_all : {nvp n k : ℕ} {vs ps : List ℕ} {s i : ℕ} → Summed nvp n k vs ps s i → n ≤ i → to_z w64 s ≡ stored_area (stored_in nvp n k vs ps)
+pub summed_all : {nvp n k : ℕ} {vs ps : List ℕ} {s : ℤ} {i : ℕ} → Summed nvp n k vs ps s i → n ≤ i → s ≡ stored_area (stored_in nvp n k vs ps)
 summed_all {nvp} {n} {k} {vs} {ps} {s} {i} r h = let e : i ≡ n = omega (arith, r.within) in rw e at r.same
 
 -- a turn: z are the bits of what it adds, d
-module _ {nvp n k : ℕ} {vs ps : List ℕ} {s i z : ℕ} {d : ℤ} (g : MeshReady nvp n k vs ps) (r : Summed nvp n k vs ps s i) (h : i < n) (z-is : Reads w64 z d)
+module _ {nvp n k : ℕ} {vs ps : List ℕ} (s : ℕ) {i z : ℕ} {d : ℤ} (g : MeshReady nvp n k vs ps) (r : Summed nvp n k vs ps (to_z w64 s) i) (h : i < n) (z-is : Reads w64 z d)
     (d-is : d ≡ area (places_of vs (up_to_none (view ps (i * nvp) nvp)))) where
   turn_size : Within 25768230936 d
   turn_size = rw d-is (polygon_within (polygon_ready g i h))
@@ -107,7 +107,7 @@ module _ {nvp n k : ℕ} {vs ps : List ℕ} {s i z : ℕ} {d : ℤ} (g : MeshRea
   pub add_needs : SFits w64 (to_z w64 s +ℤ to_z w64 z)
   add_needs = add_fits (reads_self w64 s) z-is more_fits
 
-  pub summed_more : Summed nvp n k vs ps (of_z w64 (to_z w64 s +ℤ to_z w64 z)) (i + 1)
+  pub summed_more : Summed nvp n k vs ps (to_z w64 (of_z w64 (to_z w64 s +ℤ to_z w64 z))) (i + 1)
   summed_more =
       let q = add_reads (reads_self w64 s) z-is more_fits in
       record {

@@ -30,7 +30,7 @@ overflow_mul-n c =
     let seen : let g = c.args in
     Loaded (polygon_at (polygons_at g.work.now g.o g.np) c.loop-i.k) c.load_at-p.result = loaded_now c.requires c.loop-i.invariant c.load_at-p.ensures in
     let held : let g = c.args in
-    ltb 0 (holds g.rem (polygon_at (polygons_at g.work.now g.o g.np) c.loop-i.k)) ≡ true = held_now c.requires c.loop-i.invariant c.is_held_lem.ensures ∙ c.if-is_held.true in
+    ltb 0 (holds g.rem (polygon_at (polygons_at g.work.now g.o g.np) c.loop-i.k)) ≡ true = held_now c.requires c.loop-i.invariant c.is_held.ensures ∙ c.if-is_held.true in
     let room_at : let at = c.loop-i in let g = c.args in
     g.q + at.n * side_size + length (untouched g.rem (polygon_of c.load_at-p.result)) * side_size ≤ length at.work = collecting_room c.loop-i.invariant (search rules) (seen) (held) in
     let h = room_at in search rules
@@ -40,7 +40,7 @@ overflow_add-q c =
     let seen : let g = c.args in
     Loaded (polygon_at (polygons_at g.work.now g.o g.np) c.loop-i.k) c.load_at-p.result = loaded_now c.requires c.loop-i.invariant c.load_at-p.ensures in
     let held : let g = c.args in
-    ltb 0 (holds g.rem (polygon_at (polygons_at g.work.now g.o g.np) c.loop-i.k)) ≡ true = held_now c.requires c.loop-i.invariant c.is_held_lem.ensures ∙ c.if-is_held.true in
+    ltb 0 (holds g.rem (polygon_at (polygons_at g.work.now g.o g.np) c.loop-i.k)) ≡ true = held_now c.requires c.loop-i.invariant c.is_held.ensures ∙ c.if-is_held.true in
     let room_at : let at = c.loop-i in let g = c.args in
     g.q + at.n * side_size + length (untouched g.rem (polygon_of c.load_at-p.result)) * side_size ≤ length at.work = collecting_room c.loop-i.invariant (search rules) (seen) (held) in
     let h = room_at in search rules
@@ -50,7 +50,7 @@ push_sides-n-requires c =
     let seen : let g = c.args in
     Loaded (polygon_at (polygons_at g.work.now g.o g.np) c.loop-i.k) c.load_at-p.result = loaded_now c.requires c.loop-i.invariant c.load_at-p.ensures in
     let held : let g = c.args in
-    ltb 0 (holds g.rem (polygon_at (polygons_at g.work.now g.o g.np) c.loop-i.k)) ≡ true = held_now c.requires c.loop-i.invariant c.is_held_lem.ensures ∙ c.if-is_held.true in
+    ltb 0 (holds g.rem (polygon_at (polygons_at g.work.now g.o g.np) c.loop-i.k)) ≡ true = held_now c.requires c.loop-i.invariant c.is_held.ensures ∙ c.if-is_held.true in
     let room_at : let at = c.loop-i in let g = c.args in
     g.q + at.n * side_size + length (untouched g.rem (polygon_of c.load_at-p.result)) * side_size ≤ length at.work = collecting_room c.loop-i.invariant (search rules) (seen) (held) in
     (search rules, room_at)
@@ -60,7 +60,7 @@ overflow_add-n c =
     let seen : let g = c.args in
     Loaded (polygon_at (polygons_at g.work.now g.o g.np) c.loop-i.k) c.load_at-p.result = loaded_now c.requires c.loop-i.invariant c.load_at-p.ensures in
     let held : let g = c.args in
-    ltb 0 (holds g.rem (polygon_at (polygons_at g.work.now g.o g.np) c.loop-i.k)) ≡ true = held_now c.requires c.loop-i.invariant c.is_held_lem.ensures ∙ c.if-is_held.true in
+    ltb 0 (holds g.rem (polygon_at (polygons_at g.work.now g.o g.np) c.loop-i.k)) ≡ true = held_now c.requires c.loop-i.invariant c.is_held.ensures ∙ c.if-is_held.true in
     let room_at : let at = c.loop-i in let g = c.args in
     g.q + at.n * side_size + length (untouched g.rem (polygon_of c.load_at-p.result)) * side_size ≤ length at.work = collecting_room c.loop-i.invariant (search rules) (seen) (held) in
     let h = room_at in search rules
@@ -70,7 +70,7 @@ loop-i-preserved-then-is_held c =
     let seen : let g = c.args in
     Loaded (polygon_at (polygons_at g.work.now g.o g.np) c.loop-i.k) c.load_at-p.result = loaded_now c.requires c.loop-i.invariant c.load_at-p.ensures in
     let held : let g = c.args in
-    ltb 0 (holds g.rem (polygon_at (polygons_at g.work.now g.o g.np) c.loop-i.k)) ≡ true = held_now c.requires c.loop-i.invariant c.is_held_lem.ensures ∙ c.if-is_held.true in
+    ltb 0 (holds g.rem (polygon_at (polygons_at g.work.now g.o g.np) c.loop-i.k)) ≡ true = held_now c.requires c.loop-i.invariant c.is_held.ensures ∙ c.if-is_held.true in
     collecting_more c.loop-i.invariant (search rules) (seen) (held) c.push_sides-n.ensures c.push_sides-n.auto.work
 
 pub overflow_add-i : goal.overflow_add-i
@@ -79,7 +79,7 @@ overflow_add-i c =
     search rules
 
 pub loop-i-preserved : goal.loop-i-preserved
-loop-i-preserved c = collecting_past c.loop-i.invariant (search rules) (held_now c.requires c.loop-i.invariant c.is_held_lem.ensures ∙ c.if-is_held.false)
+loop-i-preserved c = collecting_past c.loop-i.invariant (search rules) (held_now c.requires c.loop-i.invariant c.is_held.ensures ∙ c.if-is_held.false)
 
 pub returns : goal.returns
 returns c = collecting_end c.requires c.loop-i.invariant (search rules)

@@ -3,11 +3,6 @@ use Rattle.records.specs.Layout.{vertices_at}
 use Rattle.weld.proofs.Walks.{agreed_none, agreed_more, walk_first, walk_none, step_fits, step_link, step_less, step_on, step_found}
 use Rattle.weld.proofs.find.find_vertex.Goals as goal
 
--- src/find.rt:58:46
-compute-vertex-hash-requires :
-    tie.Need-compute-vertex-hash-requires invariant-loop decreases-loop invariant-search decreases-search
-compute-vertex-hash-requires c κs = search rules
-
 -- src/find.rt:59:5
 pub search-init : goal.search-init
 search-init c = (walk_first c.args.work.now c.args.t c.args.nv c.requires c.args.height c.args.v c.compute_vertex_hash.ensures.0 c.link_at-link.ensures, refl)
