@@ -15,8 +15,8 @@ use Rattle.rules.specs.Exits.{decoded}
 use Rattle.rules.specs.declared.Point.{Point}
 use Rattle.rules.specs.Handed.{vertex_count, polygon_count, mesh_in, corners_at, all_of, Consistent}
 use Rattle.rules.specs.Checker.{open_link, portal_holds, portals_hold}
-use Rattle.laws.specs.Lists.{get_d_any}
-use Rattle.laws.specs.HandedWords.{corner_read, place_read}
+use Rattle.laws.proofs.Lists.{get_d_any}
+use Rattle.laws.proofs.HandedWords.{corner_read, place_read}
 use Rattle.stored.specs.Stored.{stored_vertices}
 use Rattle.checker.specs.Asked.{handed_in, unclaimed_in}
 use Rattle.checker.specs.Steps.{vertices_in, side_bears, SidesReady}

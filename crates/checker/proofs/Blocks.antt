@@ -13,8 +13,8 @@ use Rattle.rules.specs.Weld.{no_vertex}
 use Rattle.rules.specs.Checks.{vertex_stride, is_high}
 use Rattle.rules.specs.declared.Vertex.{Vertex}
 use Rattle.rules.specs.Handed.{Handed, vertex_count, polygon_count, mesh_in, all_of, blocks_agree, within_limits, are_few, buffers_hold, GoodBuffers}
-use Rattle.laws.specs.Handed.{good_buffers}
-use Rattle.laws.specs.HandedWords.{vertex_read}
+use Rattle.laws.proofs.Handed.{good_buffers}
+use Rattle.laws.proofs.HandedWords.{vertex_read}
 use Rattle.checker.specs.Asked.{handed_in}
 use Rattle.stored.specs.Stored.{vertex_in}
 use Rattle.checker.specs.Steps.{grid_holds}

@@ -10,7 +10,7 @@ use Rattle.mem.specs.Tab.{get_or_tab}
 use Rattle.mem.specs.Loops.{block_fits}
 use Rattle.rules.specs.Exits.{up_to_none, stored_polygon, stored_links, decoded}
 use Rattle.rules.specs.Handed.{Handed, polygon_count, buffers_of, mesh_in, corners_at, GoodBuffers}
-use Rattle.laws.specs.HandedWords.{corners_read}
+use Rattle.laws.proofs.HandedWords.{corners_read}
 use Rattle.stored.specs.Counts.{count_most, corners_there}
 use Rattle.checker.specs.Asked.{handed_in, links_in}
 use Rattle.checker.specs.Steps.{row_at, RowEnds, RowsReady, PolygonAt}

@@ -14,7 +14,7 @@ use Rattle.rules.specs.Links.{none}
 use Rattle.rules.specs.Exits.{decoded, stored_polygon}
 use Rattle.rules.specs.Handed.{Handed, polygon_count, buffers_of, mesh_in, link_word, corners_at, link_at}
 use Rattle.rules.specs.Handed.{all_of, any_of, names_back, last_portal, link_holds, links_hold}
-use Rattle.laws.specs.Lists.{get_d_any}
+use Rattle.laws.proofs.Lists.{get_d_any}
 use Rattle.checker.specs.Steps.{unused_from, PolygonAt}
 use Rattle.checker.proofs.Rows.{unused_is}
 

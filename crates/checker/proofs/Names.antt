@@ -10,7 +10,7 @@ use borrow.Author.Tests.{eq-eqb, ne_eqb}
 use Rattle.rules.specs.Lists.{next}
 use Rattle.rules.specs.Links.{none}
 use Rattle.rules.specs.Handed.{names_back}
-use Rattle.laws.specs.Lists.{get_d_any}
+use Rattle.laws.proofs.Lists.{get_d_any}
 
 module _ (cs ls : List ℕ) (a b i q : ℕ) where
   pub not_from : get_or cs q 0 ≢ b → false ≡ names_back cs ls a b i q

@@ -14,7 +14,7 @@ use Rattle.rules.specs.Links.{none}
 use Rattle.rules.specs.Exits.{up_to_none}
 use Rattle.rules.specs.declared.Found.TheVariants.{Nothing}
 use Rattle.rules.specs.Handed.{Handed, vertex_count, polygon_count, corner_word, all_of, first_fault, corners_hold}
-use Rattle.laws.specs.HandedWords.{up_to_few, corners_read}
+use Rattle.laws.proofs.HandedWords.{up_to_few, corners_read}
 use Rattle.checker.specs.Steps.{row_at, unused_from, row_holds}
 
 -- ---- each way out, where c is the count of the row's corners

@@ -28,8 +28,8 @@ use Rattle.rules.specs.declared.Verdict.TheVariants.{Accepted, Unsound, BadPorta
 use Rattle.rules.specs.Handed.{vertex_count, polygon_count, buffers_of, mesh_in, link_word, corners_at, first_fault, corners_hold}
 use Rattle.rules.specs.Handed.{link_holds, links_hold, or_fault, soundness, GoodBuffers, Consistent}
 use Rattle.rules.specs.Checker.{Claim, portal_holds, portals_hold, area_holds, sound_verdict, verdict}
-use Rattle.laws.specs.Checker.{equal_of, of_equal}
-use Rattle.laws.specs.HandedWords.{corners_read, corner_read, vertex_read}
+use Rattle.laws.proofs.Checker.{equal_of, of_equal}
+use Rattle.laws.proofs.HandedWords.{corners_read, corner_read, vertex_read}
 use Rattle.stored.specs.Stored.{stored_in, MeshReady}
 use Rattle.stored.specs.Areas.{area_stored}
 use Rattle.checker.specs.Asked.{handed_in, links_in, claim_in, unclaimed_in}

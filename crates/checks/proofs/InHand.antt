@@ -13,7 +13,8 @@ use Rattle.rules.specs.declared.Found.{Found}
 use Rattle.rules.specs.declared.Found.TheVariants.{At, Nothing}
 use Rattle.rules.specs.declared.Refusal.{Refusal}
 use Rattle.rules.specs.declared.Refusal.TheVariants.{BadCornerLimit, HighCoordinate, BadFlag, TooManyVertices, ShortBuffer}
-use Rattle.laws.specs.Checks.{Agreed, T-below-V}
+use Rattle.laws.specs.Checks.{Agreed}
+use Rattle.laws.proofs.Checks.{T-below-V}
 use Rattle.checks.specs.declared.check.Verdict.{Verdict}
 use Rattle.checks.specs.declared.check.Verdict.TheVariants.{Passed, Refused}
 use Rattle.checks.specs.Sums.{sum_all, sum_v, sum_t, all_is, v_is, t_is}

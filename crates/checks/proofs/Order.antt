@@ -11,7 +11,8 @@ use Rattle.rules.specs.Job.{Job}
 use Rattle.rules.specs.Checks.{Checked, passed, refusal, refuse_if, refuse_at, or_next, check_nvp, counts_agree, check_counts, first_high, first_bad_flag, check_v, least_lengths, first_short, check}
 use Rattle.rules.specs.declared.Refusal.{Refusal}
 use Rattle.rules.specs.declared.Refusal.TheVariants.{BadCornerLimit, CountsDisagree, HighCoordinate, BadFlag, TooManyVertices, ShortBuffer}
-use Rattle.laws.specs.Checks.{not_refused, Agreed, agreed}
+use Rattle.laws.specs.Checks.{Agreed}
+use Rattle.laws.proofs.Checks.{not_refused, agreed}
 use Rattle.checks.specs.declared.check.Verdict.{Verdict}
 use Rattle.checks.specs.declared.check.Verdict.TheVariants.{Passed, Refused}
 use Rattle.checks.specs.Answers.{verdict_of, first_of, first_of_lem, is_passed}

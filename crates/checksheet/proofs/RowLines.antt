@@ -14,7 +14,7 @@ use Rattle.rules.specs.Lines.{tab_byte, lf, parts, Line, lines_of, numbers, malf
 use Rattle.rules.specs.Sheet.{p_name, n_name, number_most, code_most, line_at}
 use Rattle.rules.specs.Exits.{padded}
 use Rattle.rules.specs.CheckSheet.{link_most, corner_numbers, link_numbers}
-use Rattle.laws.specs.Exits.{length_padded}
+use Rattle.laws.proofs.Exits.{length_padded}
 use Rattle.lines.specs.Scan.{place_of}
 use Rattle.lines.specs.Read.{RowRead}
 use Rattle.lines.specs.Taken.{row_good, row_bad}

@@ -14,9 +14,11 @@ use Rattle.rules.specs.Mesh.{Polygon, no_polygon, place_of}
 use Rattle.rules.specs.Job.{contour_vertices, contour_flags}
 use Rattle.rules.specs.Build.{weld_height, add_contour}
 use Rattle.rules.specs.declared.Vertex.{Vertex}
-use Rattle.laws.specs.Lists.{All, all_of_lem, every_of_all}
-use Rattle.laws.specs.Weld.{Welds, welded}
-use Rattle.laws.specs.Contours.{length_contour}
+use Rattle.laws.specs.Lists.{All}
+use Rattle.laws.proofs.Lists.{all_of_lem, every_of_all}
+use Rattle.laws.specs.Weld.{Welds}
+use Rattle.laws.proofs.Weld.{welded}
+use Rattle.laws.proofs.Contours.{length_contour}
 use Rattle.records.specs.Layout.{polygon_size, vertices_at, marks_at, polygons_at, polygon_records, Small}
 use Rattle.records.specs.Vertices.{length_vertices, length_marks}
 use Rattle.records.specs.Polygons.{length_polygons, length_records, records_append}

@@ -12,9 +12,11 @@ use Rattle.rules.specs.Weld.{no_vertex}
 use Rattle.rules.specs.Job.{vertex_at, contour_vertices}
 use Rattle.rules.specs.Ears.{Ears, done, stuck, triangulate}
 use Rattle.rules.specs.declared.Point.{Point}
-use Rattle.laws.specs.Lists.{All, all_of_lem, all_imp, every_of_all, get_or_map_in}
-use Rattle.laws.specs.Ears.{Triangle, triangle, Triangulated, triangulated}
-use Rattle.laws.specs.Contours.{length_contour, get_or_contour}
+use Rattle.laws.specs.Lists.{All}
+use Rattle.laws.proofs.Lists.{all_of_lem, all_imp, every_of_all, get_or_map_in}
+use Rattle.laws.specs.Ears.{Triangle, triangle, Triangulated}
+use Rattle.laws.proofs.Ears.{triangulated}
+use Rattle.laws.proofs.Contours.{length_contour, get_or_contour}
 use Rattle.plane.specs.Points.{points_in}
 use Rattle.ears.specs.Part.{Laid as EarsLaid, points_of, cut_in}
 use Rattle.holes.specs.Fill.{place_words, cut_words, triangles_at}

@@ -19,12 +19,16 @@ use Rattle.rules.specs.Job.{Job, sum_over, count_all, count_v, count_t, contour_
 use Rattle.rules.specs.Build.{added, no_ear_in, weld_height, add_contour, add_all}
 use Rattle.rules.specs.Fuel.{Adding, adding}
 use Rattle.laws.specs.Measures.{spares_in}
-use Rattle.laws.specs.Lists.{none, all_imp, total}
-use Rattle.laws.specs.Merge.{Good, Below, polygons_few}
+use Rattle.laws.specs.Lists.{none, total}
+use Rattle.laws.proofs.Lists.{all_imp}
+use Rattle.laws.specs.Merge.{Good, Below}
+use Rattle.laws.proofs.Merge.{polygons_few}
 use Rattle.laws.specs.Removal.{Sound}
-use Rattle.laws.specs.Checks.{Agreed, agreed, points_in, triangles_in}
-use Rattle.laws.specs.Contours.{contour_added, length_contour, get_or_contour, left}
-use Rattle.laws.specs.Fuel.{adding_turns, added_from_the_start}
+use Rattle.laws.specs.Checks.{Agreed, points_in, triangles_in}
+use Rattle.laws.proofs.Checks.{agreed}
+use Rattle.laws.specs.Contours.{left}
+use Rattle.laws.proofs.Contours.{contour_added, length_contour, get_or_contour}
+use Rattle.laws.proofs.Fuel.{adding_turns, added_from_the_start}
 use Rattle.records.specs.Layout.{vertices_at, marks_at, polygon_records}
 use Rattle.records.specs.Vertices.{length_vertices}
 use Rattle.records.specs.Polygons.{length_polygons, length_records}

@@ -14,7 +14,8 @@ use Rattle.rules.specs.Merge.{merge_all}
 use Rattle.rules.specs.Build.{contour_triangle}
 use Rattle.laws.specs.Ears.{Triangle, triangle}
 use Rattle.laws.specs.Merge.{Good, Below}
-use Rattle.laws.specs.Lists.{All, none, more, all_imp, all_map, all_at, every_of_all, get_or_map_in}
+use Rattle.laws.specs.Lists.{All, none, more}
+use Rattle.laws.proofs.Lists.{all_imp, all_map, all_at, every_of_all, get_or_map_in}
 use Rattle.records.specs.Layout.{vertex_size, polygon_size, vertex_in, vertices_at, polygons_at, polygon_words, polygon_records, Small}
 use Rattle.records.specs.Values.{to_poly, poly_words, Loaded}
 use Rattle.records.specs.Blanks.{blanks_small}

@@ -12,7 +12,7 @@ use Rattle.rules.specs.Mesh.{Mesh, no_mesh}
 use Rattle.rules.specs.Job.{Job, count_v, count_t}
 use Rattle.rules.specs.Build.{Contours, added, no_ear_in, add_from, add_all}
 use Rattle.laws.specs.Checks.{Passed}
-use Rattle.laws.specs.Contours.{add_skip, add_stuck, add_done}
+use Rattle.laws.proofs.Contours.{add_skip, add_stuck, add_done}
 use Rattle.checks.specs.Answers.{job_of}
 use Rattle.contours.specs.declared.ground.Ground.{Ground}
 use Rattle.contours.specs.declared.ground.Contour.{Contour}

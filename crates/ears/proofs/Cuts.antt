@@ -13,8 +13,9 @@ use Rattle.mem.specs.Packed.{repacked}
 use Rattle.rules.specs.declared.Ear.{Ear}
 use Rattle.rules.specs.Ears.{indices, mark_all, find_ear, triangle_at, cut_ear, done, stuck, triangulate}
 use Rattle.rules.specs.Fuel.{cutting}
-use Rattle.laws.specs.Ears.{ear_in, length_cut, length_indices, length_marked, triangles_counted}
-use Rattle.laws.specs.Fuel.{cutting_turns, cut_from_the_start}
+use Rattle.laws.proofs.Ears.{ear_in, length_cut, length_indices, length_marked}
+use Rattle.laws.proofs.CutTurns.{triangles_counted}
+use Rattle.laws.proofs.Fuel.{cutting_turns, cut_from_the_start}
 use Rattle.plane.specs.Points.{points_in}
 use Rattle.ears.specs.Part.{points_of, Laid, answer_of, cut_in, Ready}
 use Rattle.ears.specs.Turn.{cut_once, ears_at, AllCut}

@@ -16,8 +16,8 @@ use Rattle.rules.specs.Lists.{next, prev, without}
 use Rattle.rules.specs.Diagonal.{is_diagonal}
 use Rattle.rules.specs.Ears.{index_of, point_at, with_mark, remark, mark_from, mark_all, remark_gap, triangle_at, cut_ear}
 use Rattle.rules.specs.declared.Kind.TheVariants.{Strict}
-use Rattle.laws.specs.Lists.{length_without}
-use Rattle.laws.specs.Ring.{next_below}
+use Rattle.laws.proofs.Lists.{length_without}
+use Rattle.laws.proofs.Ring.{next_below}
 use Rattle.plane.specs.Points.{points_in}
 use Rattle.ears.specs.Ring.{Ring}
 use Rattle.ears.specs.Part.{Ready}

@@ -12,8 +12,10 @@ use Rattle.rules.specs.declared.Point.{Point}
 use Rattle.rules.specs.Lists.{next, prev, without}
 use Rattle.rules.specs.Plane.{origin, InGrid}
 use Rattle.rules.specs.Ears.{index_of, indices, point_at, remark, remark_gap, cut_ear, mark_all}
-use Rattle.laws.specs.Lists.{All, all_at, all_of_lem, all_without, map_without, get_or_map_in}
-use Rattle.laws.specs.Ears.{index_small, remark_index, mark_index, cut_index}
+use Rattle.laws.specs.Lists.{All}
+use Rattle.laws.proofs.Lists.{all_at, all_of_lem, all_without, map_without, get_or_map_in}
+use Rattle.laws.proofs.Ears.{remark_index, mark_index, cut_index}
+use Rattle.laws.proofs.Unmarked.{index_small}
 use Rattle.plane.specs.Points.{point_of, points_in, GridWords}
 use Rattle.ears.specs.Ring.{Ring, Ends}
 

@@ -14,8 +14,8 @@ use Rattle.rules.specs.Lists.{next}
 use Rattle.rules.specs.Plane.{InGrid}
 use Rattle.rules.specs.Diagonal.{at_ends, shares_end, stops, is_blocked}
 use Rattle.rules.specs.Ears.{point_at}
-use Rattle.laws.specs.Boxes.{apart_passes}
-use Rattle.laws.specs.Diagonals.{few_clear}
+use Rattle.laws.proofs.Boxes.{apart_passes}
+use Rattle.laws.proofs.Diagonals.{few_clear}
 use Rattle.plane.specs.declared.bounds.Bounds.{Bounds}
 use Rattle.plane.specs.Points.{points_in}
 use Rattle.plane.specs.Boxes.{bounds_of, is_apart, apart_is_apart}

@@ -18,8 +18,8 @@ use Rattle.rules.specs.Mesh.{Polygon, no_polygon, polygon_at}
 use Rattle.rules.specs.Removal.{holds, untouched, TakingOut, take_one, taken_out, dropped, dropped_in, polygons_left}
 use Rattle.rules.specs.Fuel.{taking}
 use Rattle.rules.specs.declared.Side.{Side}
-use Rattle.laws.specs.Lists.{get_or_map_in, swap_length, every_swap}
-use Rattle.laws.specs.Fuel.{taking_turns, taken_out_lem}
+use Rattle.laws.proofs.Lists.{get_or_map_in, swap_length, every_swap}
+use Rattle.laws.proofs.Fuel.{taking_turns, taken_out_lem}
 use Rattle.records.specs.Layout.{vertex_size, vertices_at, marks_at, vertex_records, polygon_size, most_corners, spare_words, polygon_in, polygons_at, polygon_words, polygon_records, Small, Tidy}
 use Rattle.records.specs.Corners.{from_is, from_fits, stands_at, corners_at_lem}
 use Rattle.records.specs.Values.{corners_from, Stands, CornerOf, SwapReady}

@@ -22,8 +22,9 @@ use Rattle.rules.specs.declared.Point.{Point}
 use Rattle.rules.specs.declared.ChainPoint.{ChainPoint}
 use Rattle.laws.specs.Ears.{Triangle, triangle}
 use Rattle.laws.specs.Merge.{Good, Below}
-use Rattle.laws.specs.Removal.{good_triangle, length_places}
-use Rattle.laws.specs.Lists.{All, none, more, all_imp, every_of_all, all_map, all_at, get_or_map_in}
+use Rattle.laws.proofs.Removal.{good_triangle, length_places}
+use Rattle.laws.specs.Lists.{All, none, more}
+use Rattle.laws.proofs.Lists.{all_imp, every_of_all, all_map, all_at, get_or_map_in}
 use Rattle.records.specs.Layout.{vertex_size, point_size, polygon_size, vertex_in, point_in, vertices_at, points_at, polygons_at, polygon_words, polygon_records, Small, Placed}
 use Rattle.records.specs.Values.{to_poly, poly_words, Loaded}
 use Rattle.records.specs.Polygons.{stored_words, length_words, length_records, polygons_are, tidy_of}

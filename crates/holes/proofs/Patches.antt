@@ -13,9 +13,11 @@ use Rattle.rules.specs.Mesh.{Polygon, no_polygon}
 use Rattle.rules.specs.Removal.{places_of}
 use Rattle.rules.specs.declared.Vertex.{Vertex}
 use Rattle.rules.specs.declared.ChainPoint.{ChainPoint}
-use Rattle.laws.specs.Lists.{All, all_imp, every_of_all}
-use Rattle.laws.specs.Ears.{Triangle, triangle, triangulated}
-use Rattle.laws.specs.Removal.{length_places}
+use Rattle.laws.specs.Lists.{All}
+use Rattle.laws.proofs.Lists.{all_imp, every_of_all}
+use Rattle.laws.specs.Ears.{Triangle, triangle}
+use Rattle.laws.proofs.Ears.{triangulated}
+use Rattle.laws.proofs.Removal.{length_places}
 use Rattle.records.specs.Layout.{vertex_size, point_size, polygon_size, vertex_in, point_in, vertices_at, points_at, polygon_records, Small}
 use Rattle.records.specs.Fixed.{point_fixed, fixed_count}
 use Rattle.records.specs.Polygons.{length_records}

@@ -14,7 +14,7 @@ use Rattle.mem.specs.Packed.{every_at}
 use Rattle.rules.specs.Lists.{count}
 use Rattle.rules.specs.Mesh.{Polygon, no_polygon, polygon_at, side_start, side_end}
 use Rattle.rules.specs.Removal.{holds, held_once, other_end, neighbours_in, neighbours, met_once}
-use Rattle.laws.specs.Around.{polygon_few}
+use Rattle.laws.proofs.Around.{polygon_few}
 use Rattle.records.specs.Layout.{polygon_size, most_corners, polygon_in, polygons_at, Small}
 use Rattle.records.specs.Values.{corners_of, polygon_of, Loaded}
 use Rattle.records.specs.Polygons.{loaded_of, loaded_corners, length_corners, length_polygons}

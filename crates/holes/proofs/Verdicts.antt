@@ -15,8 +15,8 @@ use Rattle.rules.specs.Removal.{sides_left, walk, held_once, neighbours, met_onc
 use Rattle.rules.specs.declared.Side.{Side}
 use Rattle.rules.specs.declared.ChainPoint.{ChainPoint}
 use Rattle.laws.specs.Measures.{spares_in}
-use Rattle.laws.specs.Merge.{polygons_few}
-use Rattle.laws.specs.Removal.{sides_few}
+use Rattle.laws.proofs.Merge.{polygons_few}
+use Rattle.laws.proofs.Removal.{sides_few}
 use Rattle.records.specs.Layout.{polygons_at, side_size, sides_at, side_records, point_size, point_records}
 use Rattle.records.specs.Polygons.{length_polygons}
 use Rattle.records.specs.Fixed.{side_fixed, point_fixed, fixed_length}

@@ -8,7 +8,8 @@ use Rattle.mem.specs.Packed.{every_of, packed, length_packed}
 use Rattle.rules.specs.Plane.{InGrid, origin}
 use Rattle.rules.specs.Ears.{Ears, done, stuck}
 use Rattle.rules.specs.declared.Point.{Point}
-use Rattle.laws.specs.Lists.{All, all_head, all_tail}
+use Rattle.laws.specs.Lists.{All}
+use Rattle.laws.proofs.Lists.{all_head, all_tail}
 use Rattle.plane.specs.Points.{point_of, points_in}
 use Rattle.ears.specs.Part.{answer_of}
 use Rattle.ears.specs.declared.cut.Triangulation.TheVariants.{Done, Stuck}

@@ -3,7 +3,8 @@ use Rattle.std.specs.Prelude.{List, ℕ, ◌≤◌}
 use Rattle.std.proofs.Common.{arith}
 use Rattle.mem.specs.Packed.{Every}
 use Rattle.rules.specs.Mesh.{Polygon, no_polygon}
-use Rattle.laws.specs.Lists.{All, all_imp, every_of_all}
+use Rattle.laws.specs.Lists.{All}
+use Rattle.laws.proofs.Lists.{all_imp, every_of_all}
 use Rattle.laws.specs.Merge.{Good, Below}
 use Rattle.records.specs.Layout.{most_corners, Small}
 

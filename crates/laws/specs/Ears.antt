@@ -1,89 +1,12 @@
--- R2: the triangles that are cut have the area of the points, they are n - 2, and their numbers are below n. Assumes nothing.
--- Key: `triangulated`: of three or more points that are cut, the triangles have their area, are two fewer, and name places below their number.
-use Rattle.std.specs.Prelude.{ℕ, zero, suc, ◌+◌, ◌-◌, ◌^◌, ◌≤◌, ◌<◌, ◌≡◌, refl, Bool, true, false, cond, not, ◌&&◌, List, [], ◌∷◌, ◌++◌, map, leb, length, get_or, ℤ, ◌+ℤ◌}
-use Rattle.std.proofs.Common.{arith, sym, ◌∙◌, ap, length-append, take_all}
-use Rattle.std.proofs.lemmas.List.{length-map}
-use Rattle.std.proofs.Math.Seq.{map-set_same}
-use Rattle.std.proofs.Math.IntN.{+ℤ_idl, +ℤ_idr}
-use Rattle.mem.specs.Loops.{each_kept, each_ind}
-use Rattle.mem.specs.Tab.{tab, length_tab, tab_cong, tab_take, get_or_tab}
-use Rattle.ints.specs.Ring.{at, nat, ◌⊕◌, is_eq}
+-- R2: a triangle's three numbers, its area, and what cutting gives: areas, counts and ranges. Definitions only.
+use Rattle.std.specs.Prelude.{ℕ, ◌-◌, ◌<◌, ◌≡◌, List, [], ◌∷◌, map, length, get_or, ℤ, ◌+ℤ◌}
 use Rattle.rules.specs.declared.Point.{Point}
-use Rattle.rules.specs.declared.Ear.{Ear}
-use Rattle.rules.specs.declared.Kind.{Kind}
-use Rattle.rules.specs.declared.Kind.TheVariants.{Strict, Loose}
 use Rattle.rules.specs.Plane.{area, origin}
-use Rattle.rules.specs.Lists.{next, without}
 use Rattle.rules.specs.Areas.{sum_of}
-use Rattle.rules.specs.Ears.{index_of, with_mark, indices, remark, mark_from, mark_all, is_cuttable, key_from, no_ear, better, try_ear, least_ear, find_ear, triangle_at, remark_gap, cut_ear, done, stuck, cut_all, triangulate}
-use Rattle.laws.specs.Lists.{All, none, more, all_append, all_at, all_of_lem, all_without, sum_append, map_tab, map_without, length_without, get_or_map_in}
-use Rattle.laws.specs.Sides.{area_triangle}
-use Rattle.laws.specs.Ring.{next_below, area_without}
+use Rattle.rules.specs.Ears.{index_of}
+use Rattle.laws.specs.Lists.{All}
 
--- ---- marks don't change what a word says
-pub index_mark : (on : Bool) (w : ℕ) → index_of (with_mark on w) ≡ index_of w
-unfolding index_of with_mark
-index_mark true w = omega arith
-index_mark false w = omega arith
-
-pub index_small : (w : ℕ) → w < 2 ^ 28 → index_of w ≡ w
-unfolding index_of
-index_small w h = omega arith
-
-pub remark_index : (ps : List Point) (i j k : ℕ) (ws : List ℕ) → map index_of (remark ps i j k ws) ≡ map index_of ws
-unfolding remark
-remark_index ps i j k ws = map-set_same index_of ws k _ 0 (index_mark _ (get_or ws k 0))
-
-pub mark_index : (ps : List Point) (ws : List ℕ) → map index_of (mark_all ps ws) ≡ map index_of ws
-unfolding mark_all mark_from
-mark_index ps ws = each_kept (mark_from ps (length ws)) (map index_of) (λ i s. remark_index ps i _ _ s) 0 (length ws) ws
-
-pub length_marked : (ps : List Point) (ws : List ℕ) → length (mark_all ps ws) ≡ length ws
-length_marked ps ws = sym (length-map (mark_all ps ws) index_of) ∙ ap length (mark_index ps ws) ∙ length-map ws index_of
-
-pub cut_index : (ps : List Point) (i : ℕ) (ws : List ℕ) → map index_of (cut_ear ps i ws) ≡ without (map index_of ws) (next i (length ws))
-unfolding cut_ear remark_gap
-cut_index ps i ws = remark_index ps _ _ _ _ ∙ remark_index ps _ _ _ _ ∙ map_without index_of ws (next i (length ws))
-
-pub start_index : (ps : List Point) (n : ℕ) → n ≤ 2 ^ 28 → map index_of (mark_all ps (indices n)) ≡ indices n
-unfolding indices
-start_index ps n h = mark_index ps (tab (λ k. k) n) ∙ map_tab index_of (λ k. k) n ∙ tab_cong index_of (λ k. k) n (λ i k. index_small i (omega arith))
-
-pub length_indices : (n : ℕ) → length (indices n) ≡ n
-unfolding indices
-length_indices n = length_tab (λ k. k) n
-
-all_indices : (n : ℕ) → All (λ k. k < n) (indices n)
-unfolding indices
-all_indices n = all_of_lem (tab (λ k. k) n) 0 (λ i h. let e : i < n = rw (length_tab (λ k. k) n) at h in rw (get_or_tab (λ k. k) n i 0 e) e)
-
--- ---- the ear that is found is one of the places
-Found : ℕ → Ear → Type 0
-Found n e = e.any ≡ true → e.at < n
-
-better_in : (ok : Bool) (k i n : ℕ) (e : Ear) → i < n → Found n e → Found n (better ok k i e)
-unfolding better Found
-better_in ok k i n e h f = go (ok && not (e.any && leb e.key k))
-  where
-    go : (b : Bool) → Found n (cond b (record { any = true; key = k; at = i }) e)
-    go true = λ q. h
-    go false = f
-
-least_in : (kind : Kind) (ps : List Point) (ws : List ℕ) → Found (length ws) (least_ear kind ps ws)
-unfolding Found least_ear try_ear
-least_in kind ps ws = each_ind (try_ear kind ps ws) (Found (length ws)) 0 (length ws)
-    (λ i e l h k. better_in (is_cuttable kind ps ws i) (key_from kind ps ws i) i (length ws) e h k) no_ear
-    (λ (q : false ≡ true). let z : ◌≡◌ {A = ℕ} 0 1 = cc in absurd (omega arith))
-
-either_in : (n : ℕ) (b : Bool) (e f : Ear) → Found n e → Found n f → Found n (elim b [ true ↦ e | false ↦ f ])
-either_in n true e f p q = p
-either_in n false e f p q = q
-
-pub ear_in : (ps : List Point) (ws : List ℕ) → (find_ear ps ws).any ≡ true → (find_ear ps ws).at < length ws
-unfolding Found find_ear
-ear_in ps ws = either_in (length ws) (least_ear Strict ps ws).any (least_ear Strict ps ws) (least_ear Loose ps ws) (least_in Strict ps ws) (least_in Loose ps ws)
-
--- ---- triangles
+-- three numbers below n
 pub data Triangle (n : ℕ) : List ℕ → Type 0 where
   triangle : {a b c : ℕ} → a < n → b < n → c < n → Triangle n (a ∷ (b ∷ (c ∷ [])))
 
@@ -95,162 +18,13 @@ cut_area ps t = area (map (λ k. get_or ps k origin) t)
 unfoldable pub points_at : List Point → List ℕ → List Point
 points_at ps js = map (λ k. get_or ps k origin) js
 
--- the triangle at i of the words ws, as one of the numbers js that stand in them
-triangle_index : (ws : List ℕ) (i : ℕ) → 0 < length ws → i < length ws
-    → triangle_at ws i ≡ get_or (map index_of ws) i 0 ∷ (get_or (map index_of ws) (next i (length ws)) 0 ∷ (get_or (map index_of ws) (next (next i (length ws)) (length ws)) 0 ∷ []))
-unfolding triangle_at
-triangle_index ws i z h = rw (
-  get_or_map_in index_of ws i 0 0 h,
-  get_or_map_in index_of ws (next i (length ws)) 0 0 (next_below i (length ws) z),
-  get_or_map_in index_of ws (next (next i (length ws)) (length ws)) 0 0 (next_below (next i (length ws)) (length ws) z),
-) refl
-
-pub triangle_in : (n : ℕ) (ws : List ℕ) (i : ℕ) → 0 < length ws → i < length ws → All (λ k. k < n) (map index_of ws) → Triangle n (triangle_at ws i)
-triangle_in n ws i z h a =
-    let e = length-map ws index_of in let p = next_below i (length ws) z in let q = next_below (next i (length ws)) (length ws) z in
-    rw (triangle_index ws i z h) (triangle (all_at a i 0 (omega arith)) (all_at a (next i (length ws)) 0 (omega arith)) (all_at a (next (next i (length ws)) (length ws)) 0 (omega arith)))
-
--- one cut: what goes and what is left have the area of what was
-cut_plain : (pt : ℕ → Point) (js : List ℕ) (n i : ℕ) → length js ≡ n → 3 ≤ n → i < n
-    → area (map pt js) ≡ area (map pt (get_or js i 0 ∷ (get_or js (next i n) 0 ∷ (get_or js (next (next i n) n) 0 ∷ [])))) +ℤ area (map pt (without js (next i n)))
-cut_plain pt js n i e z h =
-    let m : length (map pt js) ≡ n = length-map js pt ∙ e in
-    let p = next_below i n (omega arith) in let q = next_below (next i n) n (omega arith) in
-    let base = area_without (map pt js) i origin (omega arith) (omega arith) in
-    (rw m at base)
-    ∙ rw (
-      get_or_map_in pt js i 0 origin (omega arith),
-      get_or_map_in pt js (next i n) 0 origin (omega arith),
-      get_or_map_in pt js (next (next i n) n) 0 origin (omega arith),
-      map_without pt js (next i n),
-      area_triangle (pt (get_or js i 0)) (pt (get_or js (next i n) 0)) (pt (get_or js (next (next i n) n) 0)),
-    ) refl
-
-pub cut_one : (ps : List Point) (ws : List ℕ) (i : ℕ) → 3 ≤ length ws → i < length ws
-    → area (points_at ps (map index_of ws)) ≡ cut_area ps (triangle_at ws i) +ℤ area (points_at ps (map index_of (cut_ear ps i ws)))
-unfolding cut_area points_at
-cut_one ps ws i z h = rw (triangle_index ws i (omega arith) h, cut_index ps i ws) (cut_plain (λ k. get_or ps k origin) (map index_of ws) (length ws) i (length-map ws index_of) z h)
-
-pub length_cut : (ps : List Point) (i : ℕ) (ws : List ℕ) → 0 < length ws → length (cut_ear ps i ws) ≡ length ws - 1
-length_cut ps i ws h =
-    sym (length-map (cut_ear ps i ws) index_of) ∙ ap length (cut_index ps i ws)
-    ∙ length_without (map index_of ws) (next i (length ws)) (rw (length-map ws index_of) (next_below i (length ws) h)) ∙ ap (λ (n : ℕ). n - 1) (length-map ws index_of)
-
-points_all : (ps : List Point) → points_at ps (indices (length ps)) ≡ ps
-unfolding points_at indices
-points_all ps = map_tab (λ k. get_or ps k origin) (λ k. k) (length ps) ∙ tab_take ps (length ps) origin (omega arith) ∙ take_all (length ps) ps (omega arith)
-
--- ---- all cuts
+-- what cutting the words ws on, behind the triangles out, gives: the triangles ts
 pub record Cuts (ps : List Point) (ws : List ℕ) (out : List (List ℕ)) (ts : List (List ℕ)) : Type 0 where
   pub areas : sum_of (cut_area ps) ts ≡ sum_of (cut_area ps) out +ℤ area (points_at ps (map index_of ws))
   pub inside : All (Triangle (length ps)) ts
-
--- the last three
-pub last_area : (ps : List Point) (ws : List ℕ) → length ws ≡ 3 → sum_of (cut_area ps) (triangle_at ws 0 ∷ []) ≡ area (points_at ps (map index_of ws))
-unfolding sum_of cut_area points_at triangle_at next
-last_area ps [] n = absurd (omega arith)
-last_area ps (a ∷ []) n = absurd (omega arith)
-last_area ps (a ∷ (b ∷ [])) n = absurd (omega arith)
-last_area ps (a ∷ (b ∷ (c ∷ []))) n = +ℤ_idr _
-last_area ps (a ∷ (b ∷ (c ∷ (d ∷ l)))) n = absurd (omega arith)
-
-pub cuts_end : (ps : List Point) (ws : List ℕ) (out ts : List (List ℕ)) → length ws ≡ 3 → All (λ k. k < length ps) (map index_of ws) → All (Triangle (length ps)) out
-    → out ++ (triangle_at ws 0 ∷ []) ≡ ts → Cuts ps ws out ts
-cuts_end ps ws out ts n a b e = rw (← e) (record {
-  areas = sum_append (cut_area ps) out (triangle_at ws 0 ∷ []) ∙ ap (λ (z : ℤ). sum_of (cut_area ps) out +ℤ z) (last_area ps ws n);
-  inside = all_append b (more (triangle_in (length ps) ws 0 (omega arith) (omega arith) a) none);
-})
-
-pub cut_true : (f : ℕ) (ps : List Point) (ws : List ℕ) (out : List (List ℕ)) → (find_ear ps ws).any ≡ true
-    → cut_all (suc f) ps ws out ≡ cut_all f ps (cut_ear ps (find_ear ps ws).at ws) (out ++ (triangle_at ws (find_ear ps ws).at ∷ []))
-unfolding cut_all
-cut_true f ps ws out e = rw (e, cut_all) refl
-
-pub cut_false : (f : ℕ) (ps : List Point) (ws : List ℕ) (out : List (List ℕ)) → (find_ear ps ws).any ≡ false → cut_all (suc f) ps ws out ≡ stuck (length out)
-unfolding cut_all
-cut_false f ps ws out e = rw (e, cut_all) refl
-
-pub cuts_more : (ps : List Point) (ws : List ℕ) (out ts : List (List ℕ)) (i : ℕ) → 3 ≤ length ws → i < length ws
-    → Cuts ps (cut_ear ps i ws) (out ++ (triangle_at ws i ∷ [])) ts → Cuts ps ws out ts
-unfolding sum_of
-cuts_more ps ws out ts i n h c = record {
-  areas = c.areas ∙ rw (sum_append (cut_area ps) out (triangle_at ws i ∷ []), cut_one ps ws i n h)
-      (is_eq (at (sum_of (cut_area ps) out) ⊕ (at (cut_area ps (triangle_at ws i)) ⊕ nat 0) ⊕ at (area (points_at ps (map index_of (cut_ear ps i ws)))))
-      (at (sum_of (cut_area ps) out) ⊕ (at (cut_area ps (triangle_at ws i)) ⊕ at (area (points_at ps (map index_of (cut_ear ps i ws)))))) (omega arith));
-  inside = c.inside;
-}
-
-not_done : (k : ℕ) (ts : List (List ℕ)) → stuck k ≡ done ts → ⊥
-not_done k ts e = let z : ◌≡◌ {A = ℕ} 0 1 = cc in omega arith
-
-pub cuts : (f : ℕ) (ps : List Point) (ws : List ℕ) (out ts : List (List ℕ)) → length ws ≡ f + 3 → All (λ k. k < length ps) (map index_of ws)
-    → All (Triangle (length ps)) out → cut_all f ps ws out ≡ done ts → Cuts ps ws out ts
-unfolding cut_all
-cuts zero ps ws out ts n a b e = cuts_end ps ws out ts (omega arith) a b (cc)
-cuts (suc f) ps ws out ts n a b e =
-    (elim (find_ear ps ws).any as (λ (t : Bool). (find_ear ps ws).any ≡ t → Cuts ps ws out ts) [
-      | true ↦ λ q.
-          let h = ear_in ps ws q in
-          cuts_more ps ws out ts (find_ear ps ws).at (omega arith) h
-          (cuts f ps (cut_ear ps (find_ear ps ws).at ws) (out ++ (triangle_at ws (find_ear ps ws).at ∷ [])) ts
-          (omega (arith, length_cut ps (find_ear ps ws).at ws (omega arith)))
-          (rw (cut_index ps (find_ear ps ws).at ws) (all_without (map index_of ws) (next (find_ear ps ws).at (length ws)) a))
-          (all_append b (more (triangle_in (length ps) ws (find_ear ps ws).at (omega arith) h a) none))
-          (sym (cut_true f ps ws out q) ∙ e))
-      | false ↦ λ q. absurd (not_done (length out) ts (sym (cut_false f ps ws out q) ∙ e))
-    ]) refl
-
--- ---- how many they are
-counted : (f : ℕ) (ps : List Point) (ws : List ℕ) (out ts : List (List ℕ)) → cut_all f ps ws out ≡ done ts → length ts ≡ length out + suc f
-unfolding cut_all
-counted zero ps ws out ts e = let q : out ++ (triangle_at ws 0 ∷ []) ≡ ts = cc in rw (← q) (length-append out (triangle_at ws 0 ∷ []))
-counted (suc f) ps ws out ts e =
-    let t = triangle_at ws (find_ear ps ws).at in
-    (elim (find_ear ps ws).any as (λ (b : Bool). (find_ear ps ws).any ≡ b → length ts ≡ length out + suc (suc f)) [
-      | true ↦ λ q. omega (arith, counted f ps (cut_ear ps (find_ear ps ws).at ws) (out ++ (t ∷ [])) ts (sym (cut_true f ps ws out q) ∙ e), length-append out (t ∷ []))
-      | false ↦ λ q. absurd (not_done (length out) ts (sym (cut_false f ps ws out q) ∙ e))
-    ]) refl
-
-three_corners : (ws : List ℕ) (i : ℕ) → length (triangle_at ws i) ≡ 3
-unfolding triangle_at
-three_corners ws i = refl
-
-threes : (f : ℕ) (ps : List Point) (ws : List ℕ) (out ts : List (List ℕ)) → All (λ t. length t ≡ 3) out → cut_all f ps ws out ≡ done ts → All (λ t. length t ≡ 3) ts
-unfolding cut_all
-threes zero ps ws out ts a e = let q : out ++ (triangle_at ws 0 ∷ []) ≡ ts = cc in rw (← q) (all_append a (more {a = triangle_at ws 0} (three_corners ws 0) none))
-threes (suc f) ps ws out ts a e =
-    let t = triangle_at ws (find_ear ps ws).at in
-    (elim (find_ear ps ws).any as (λ (b : Bool). (find_ear ps ws).any ≡ b → All (λ t. length t ≡ 3) ts) [
-      | true ↦ λ q. threes f ps (cut_ear ps (find_ear ps ws).at ws) (out ++ (t ∷ [])) ts
-          (all_append a (more {a = t} (three_corners ws (find_ear ps ws).at) none)) (sym (cut_true f ps ws out q) ∙ e)
-      | false ↦ λ q. absurd (not_done (length out) ts (sym (cut_false f ps ws out q) ∙ e))
-    ]) refl
-
--- two fewer than the points
-pub triangles_counted : (ps : List Point) (ts : List (List ℕ)) → 3 ≤ length ps → triangulate ps ≡ done ts → length ts ≡ length ps - 2
-unfolding triangulate
-triangles_counted ps ts h e = omega (arith, counted (length ps - 3) ps (mark_all ps (indices (length ps))) [] ts e)
-
--- of three corners each
-pub triangles_three : (ps : List Point) (ts : List (List ℕ)) → triangulate ps ≡ done ts → All (λ t. length t ≡ 3) ts
-unfolding triangulate
-triangles_three ps ts e = threes (length ps - 3) ps (mark_all ps (indices (length ps))) [] ts none e
 
 -- R2: of three or more points, at most 2^28, that are cut into the triangles ts
 pub record Triangulated (ps : List Point) (ts : List (List ℕ)) : Type 0 where
   pub areas : sum_of (cut_area ps) ts ≡ area ps
   pub counts : length ts ≡ length ps - 2
   pub inside : All (Triangle (length ps)) ts
-
-pub triangulated : (ps : List Point) (ts : List (List ℕ)) → 3 ≤ length ps → length ps ≤ 2 ^ 28 → triangulate ps ≡ done ts → Triangulated ps ts
-unfolding triangulate sum_of
-triangulated ps ts h k e =
-    let c = cuts (length ps - 3) ps (mark_all ps (indices (length ps))) [] ts lengths (rw (start_index ps (length ps) k) (all_indices (length ps))) none e in
-    record {
-      areas = c.areas ∙ +ℤ_idl (area (points_at ps (map index_of (mark_all ps (indices (length ps)))))) ∙ ap area (ap (points_at ps) (start_index ps (length ps) k) ∙ points_all ps);
-      counts = triangles_counted ps ts h e;
-      inside = c.inside;
-    }
-  where
-    lengths : length (mark_all ps (indices (length ps))) ≡ length ps - 3 + 3
-    lengths = length_marked ps (indices (length ps)) ∙ length_indices (length ps) ∙ omega arith

@@ -1,17 +1,15 @@
--- What is proved of the rules. Each file opens with what it shows; the statements are those of crate `rules`.
+-- The words that the theorems of proofs/ speak in, beside the rules' own. Definitions only.
 --
--- lists, searches, sides and rings, and what is measured
+-- lists, searches and sides, and what is measured
 pub mod Lists
 pub mod Searches
 pub mod Lowest
 pub mod Sides
-pub mod Ring
 pub mod Measures
 -- R2 to R5, one file a rule: areas, corners and ranges
 pub mod Ears
 pub mod Weld
 pub mod Shared
-pub mod Joins
 pub mod Merge
 pub mod Around
 pub mod Walks
@@ -23,25 +21,19 @@ pub mod Contours
 pub mod Build
 pub mod Reached
 pub mod Replies
-pub mod Buffers
 pub mod Links
 -- R4's search, made quicker: the longest of many, stamps that tell polygons apart, and rows that are kept from join to join
 pub mod Longest
 pub mod Stamps
 pub mod Rows
--- R1's tests, made quicker: rings of few sides, numbers aside of others
-pub mod Diagonals
+-- R1's tests, made quicker: numbers aside of others
 pub mod Aside
--- request 12, the mender: what a loss leaves on the plane; what mending keeps, and that it ends; flags, parts, and the job that is called with
+-- request 12, the mender: what a loss leaves on the plane; what a step does
 pub mod MendLoss
 pub mod Mend
-pub mod MendFlags
-pub mod MendParts
-pub mod MendJob
 -- the mender, made quicker: a walk with a stack and then the two ends; and the same by the points' numbers, as the code has it
 pub mod MendQuick
 pub mod MendClean
-pub mod MendSame
 pub mod MendNumbers
 pub mod MendPass
 pub mod MendWalk
@@ -50,32 +42,14 @@ pub mod MendEnded
 pub mod MendDry
 pub mod MendWithin
 pub mod MendWalked
--- request 7: tests; a mesh that is handed in, and its words; links are mutual
+-- request 7: tests; the records of sides, and the links that they store
 pub mod Tests
-pub mod Handed
-pub mod HandedWords
 pub mod EdgeSides
 pub mod EdgeJoins
 pub mod EdgeLinks
-pub mod Mutual
--- the statements of `rules`: Areas, Fuel, Widths, Exits, Checker, Sentences, Distance, Boxes, Outlines
-pub mod Laws
-pub mod Fuel
+-- what fits the buffers' words; a mesh that is written; floats
 pub mod Widths
-pub mod Exits
-pub mod Checker
 pub mod Written
-pub mod Own
-pub mod Sentences
 pub mod Distance
-pub mod Boxes
-pub mod Outlines
--- request 11: binary STL: its floats and its bytes, the file and its round trip, what whoever reads and writes its words meets, the calls,
--- the lengths of a sheet's cells, and the file of a mesh that is built
-pub mod StlFloats
+-- request 11: binary STL: its bytes
 pub mod StlBytes
-pub mod Stl
-pub mod StlWords
-pub mod StlCall
-pub mod StlCells
-pub mod Carved

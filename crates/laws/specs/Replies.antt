@@ -1,22 +1,8 @@
--- What a reply says of what the build came to. Assumes nothing.
--- Key: `was_refused`, `was_built`.
-use Rattle.std.specs.Prelude.{◌≡◌, refl, List, ℕ, length}
-use Rattle.std.proofs.Common.{sym, ap, subst}
+-- What a reply says of what the build came to. Definitions only.
+use Rattle.std.specs.Prelude.{◌≡◌, List, ℕ, length}
 use Rattle.rules.specs.Mesh.{Mesh}
 use Rattle.rules.specs.Removal.{Removal}
-use Rattle.rules.specs.Build.{Outcome, refused, built, reply_of}
-use Rattle.rules.specs.declared.Refusal.{Refusal}
-use Rattle.rules.specs.declared.Reply.{Reply}
-use Rattle.rules.specs.declared.Reply.TheVariants.{Built, Refused}
-
-IsRefused : Reply → Type 0
-IsRefused (Refused r) = Unit
-IsRefused (Built n k) = ⊥
-
-pub was_refused : (o : Outcome) (r : Refusal) → Refused r ≡ reply_of o → o ≡ refused r
-unfolding reply_of IsRefused
-was_refused (refused q) r e = let z : q ≡ r = cc in ap refused z
-was_refused (built m ls log) r e = absurd (subst IsRefused e tt)
+use Rattle.rules.specs.Build.{Outcome, built}
 
 -- the mesh of an outcome whose reply counts n polygons and k vertices
 pub record WasBuilt (o : Outcome) (n k : ℕ) : Type 0 where
@@ -26,8 +12,3 @@ pub record WasBuilt (o : Outcome) (n k : ℕ) : Type 0 where
   pub is : o ≡ built mesh links log
   pub polygons : n ≡ length mesh.polygons
   pub vertices : k ≡ length mesh.vertices
-
-pub was_built : (o : Outcome) (n k : ℕ) → Built n k ≡ reply_of o → WasBuilt o n k
-unfolding reply_of IsRefused
-was_built (refused r) n k e = absurd (subst IsRefused (sym e) tt)
-was_built (built m ls log) n k e = record { mesh = m; links = ls; log = log; is = refl; polygons = cc; vertices = cc }

@@ -1,2 +1,2 @@
-// Theorems about the rules, in specs/. There is no code here.
+// Theorems about the rules, in proofs/, and the words that they speak in, in specs/. There is no code here.
 #![tactic(auto)]

@@ -17,7 +17,8 @@ use Rattle.rules.specs.Mesh.{Polygon, no_polygon, polygon_at, place_of, side_sta
 use Rattle.rules.specs.Links.{none}
 use Rattle.rules.specs.Portals.{portal_of, portal_at, portals_in, portals}
 use Rattle.rules.specs.declared.Vertex.{Vertex}
-use Rattle.laws.specs.Lists.{All, all_at}
+use Rattle.laws.specs.Lists.{All}
+use Rattle.laws.proofs.Lists.{all_at}
 use Rattle.laws.specs.Links.{Shaped}
 use Rattle.laws.specs.Merge.{Below}
 use Rattle.records.specs.Layout.{vertex_size, vertex_in, vertices_at, polygon_size, most_corners, polygon_in, polygons_at, link_size}

@@ -12,8 +12,8 @@ use Rattle.rules.specs.Mesh.{Polygon, no_polygon, polygon_at, side_start, side_e
 use Rattle.rules.specs.Links.{no_edge, each_side, record_side, newest, joined_to, join_at, join_side, edges_of}
 use Rattle.rules.specs.declared.Edge.{Edge}
 use Rattle.rules.specs.declared.Found.TheVariants.{At, Nothing}
-use Rattle.laws.specs.Lists.{all_at}
-use Rattle.laws.specs.Ring.{next_below}
+use Rattle.laws.proofs.Lists.{all_at}
+use Rattle.laws.proofs.Ring.{next_below}
 use Rattle.records.specs.Layout.{polygon_size, most_corners, polygons_at, edges_at}
 use Rattle.records.specs.Values.{corners_of, Loaded, On}
 use Rattle.records.specs.Polygons.{loaded_corners, length_corners, length_polygons}

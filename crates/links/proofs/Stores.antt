@@ -23,8 +23,10 @@ use Rattle.rules.specs.Exits.{padded}
 use Rattle.rules.specs.declared.Edge.{Edge}
 use Rattle.rules.specs.declared.Found.{Found}
 use Rattle.rules.specs.declared.Found.TheVariants.{At, Nothing}
-use Rattle.laws.specs.Lists.{All, all_at, all_of_lem, all_append}
-use Rattle.laws.specs.Links.{Shaped, set_shaped, store_shaped, none_shaped, links_shaped}
+use Rattle.laws.specs.Lists.{All}
+use Rattle.laws.proofs.Lists.{all_at, all_of_lem, all_append}
+use Rattle.laws.specs.Links.{Shaped}
+use Rattle.laws.proofs.Links.{set_shaped, store_shaped, none_shaped, links_shaped}
 use Rattle.records.specs.Layout.{polygon_size, most_corners, polygon_in, polygons_at, Small, edge_size, edge_in, edges_at, link_size}
 use Rattle.records.specs.Polygons.{length_polygons}
 use Rattle.records.specs.Fixed.{edge_fixed, fixed_count}

@@ -11,7 +11,8 @@ use lib.ListN.{length, get_or}
 use Rattle.ints.specs.Bools.{and_left}
 use Rattle.mem.specs.Slice.{get_or_view}
 use Rattle.mem.specs.Chain.{highest, firsts_at, nexts_at}
-use Rattle.laws.specs.Searches.{found, Walk, walk_none, walk_in_lem, walk_found, walk_next, walk_less, found_in}
+use Rattle.laws.specs.Searches.{found, Walk}
+use Rattle.laws.proofs.Searches.{walk_none, walk_in_lem, walk_found, walk_next, walk_less, found_in}
 use Rattle.rules.specs.Links.{no_edge, is_free, newest}
 use Rattle.rules.specs.declared.Edge.{Edge}
 use Rattle.rules.specs.declared.Found.TheVariants.{At, Nothing}

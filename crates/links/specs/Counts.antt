@@ -13,7 +13,8 @@ use Rattle.rules.specs.Links.{no_edge, each_side, record_side, newest, joined_to
 use Rattle.rules.specs.declared.Edge.{Edge}
 use Rattle.rules.specs.declared.Found.{Found}
 use Rattle.rules.specs.declared.Found.TheVariants.{At, Nothing}
-use Rattle.laws.specs.Lists.{All, none, more, all_at, total}
+use Rattle.laws.specs.Lists.{All, none, more, total}
+use Rattle.laws.proofs.Lists.{all_at}
 use Rattle.laws.specs.Measures.{spares_in}
 use Rattle.laws.specs.Merge.{Long}
 use Rattle.records.specs.Layout.{most_corners, Small}

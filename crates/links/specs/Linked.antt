@@ -15,8 +15,10 @@ use Rattle.mem.specs.Packed.{Every, every_at, every_of, splice_first, packed_at,
 use Rattle.rules.specs.Mesh.{Polygon, no_polygon, polygon_at}
 use Rattle.rules.specs.Links.{none, set_link, edges_of, links_of}
 use Rattle.rules.specs.Exits.{padded}
-use Rattle.laws.specs.Lists.{All, all_at, every_of_all}
-use Rattle.laws.specs.Links.{Shaped, links_shaped, portals_shaped}
+use Rattle.laws.specs.Lists.{All}
+use Rattle.laws.proofs.Lists.{all_at, every_of_all}
+use Rattle.laws.specs.Links.{Shaped}
+use Rattle.laws.proofs.Links.{links_shaped, portals_shaped}
 use Rattle.records.specs.Layout.{vertex_size, vertex_in, vertices_at, Placed, polygon_size, most_corners, polygon_in, polygons_at, Small, link_size}
 use Rattle.records.specs.Polygons.{length_padded, take_padded, length_polygons}
 use Rattle.links.specs.declared.edges.EdgeTables.{EdgeTables}

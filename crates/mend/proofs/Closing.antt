@@ -11,7 +11,7 @@ use Rattle.mem.specs.Packed.{packed, packed_append}
 use Rattle.rules.specs.Job.{job_stride, vertex_at, flag_at}
 use Rattle.rules.specs.Mend.{Traced}
 use Rattle.rules.specs.MendCall.{traced_words}
-use Rattle.laws.specs.Lists.{map_append}
+use Rattle.laws.proofs.Lists.{map_append}
 use Rattle.laws.specs.MendNumbers.{point_of}
 use Rattle.mend.specs.Losing.{BothIn}
 use Rattle.mend.specs.Closing.{CloseReady}

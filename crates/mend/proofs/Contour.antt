@@ -13,10 +13,12 @@ use Rattle.mem.specs.Packed.{packed}
 use Rattle.rules.specs.Job.{job_stride}
 use Rattle.rules.specs.Mend.{traced, Mending, mended}
 use Rattle.rules.specs.MendCall.{traced_words}
-use Rattle.laws.specs.Lists.{All, all_at, all_head}
-use Rattle.laws.specs.Mend.{mend_counted}
+use Rattle.laws.specs.Lists.{All}
+use Rattle.laws.proofs.Lists.{all_at, all_head}
+use Rattle.laws.proofs.Mend.{mend_counted}
 use Rattle.laws.specs.MendNumbers.{Numbered, point_of, mending_of, Up, up_none, up_more}
-use Rattle.laws.specs.MendWalked.{walked_by, walked_same, walked_sound, walked_fine}
+use Rattle.laws.specs.MendWalked.{walked_by}
+use Rattle.laws.proofs.MendWalked.{walked_same, walked_sound, walked_fine}
 use Rattle.mend.specs.declared.ends.Span.{Span}
 use Rattle.mend.specs.Walking.{listed}
 use Rattle.mend.specs.Closing.{CloseReady}

@@ -15,9 +15,10 @@ use Rattle.mem.specs.Packed.{packed}
 use Rattle.rules.specs.Job.{job_stride, sum_over}
 use Rattle.rules.specs.Mend.{traced, Mending, mended}
 use Rattle.rules.specs.MendCall.{traced_from, mended_job, lost_numbers, longer, longest}
-use Rattle.laws.specs.Mend.{mend_counted}
+use Rattle.laws.proofs.Mend.{mend_counted}
 use Rattle.laws.specs.MendNumbers.{mending_of}
-use Rattle.laws.specs.MendWalked.{walked_by, walked_same, walked_dry}
+use Rattle.laws.specs.MendWalked.{walked_by}
+use Rattle.laws.proofs.MendWalked.{walked_same, walked_dry}
 use Rattle.mend.specs.declared.ends.Span.{Span}
 use Rattle.mend.specs.Walking.{listed}
 use Rattle.mend.specs.Walks.{WalkReady, WalkLeft}

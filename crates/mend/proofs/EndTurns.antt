@@ -5,7 +5,7 @@ use mathlib.Core.List.{List, [], ◌∷◌}
 use Prim.Native.Nat.{ℕ, ◌+◌, ◌-◌, ◌≤◌, ◌<◌}
 use native.Mathlib.Omega.{arith}
 use lib.ListN.{length, get_or}
-use Rattle.laws.specs.MendNumbers.{length_carried_if}
+use Rattle.laws.proofs.MendNumbers.{length_carried_if}
 use Rattle.laws.specs.MendEnds.{Ending, off, off_front, off_back, end_turn}
 use Rattle.mend.specs.declared.ends.Span.{Span}
 use Rattle.mend.specs.declared.ends.Ends.{Ends}

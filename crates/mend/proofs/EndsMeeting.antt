@@ -7,9 +7,9 @@ use native.Mathlib.Omega.{arith}
 use borrow.Author.Tests.{lt-ltb, le-ltb}
 use lib.ListN.{length, get_or}
 use Rattle.rules.specs.MendCall.{vertices_most}
-use Rattle.laws.specs.Lists.{all_at}
+use Rattle.laws.proofs.Lists.{all_at}
 use Rattle.laws.specs.MendNumbers.{same_place}
-use Rattle.laws.specs.MendEnds.{turn_few, turn_near, turn_last, turn_last_two, turn_none}
+use Rattle.laws.proofs.MendEnds.{turn_few, turn_near, turn_last, turn_last_two, turn_none}
 use Rattle.mend.specs.declared.ends.Span.{Span}
 use Rattle.mend.specs.declared.ends.Ends.TheVariants.{Near, Last, LastTwo, Apart}
 use Rattle.mend.specs.Losing.{BothIn}

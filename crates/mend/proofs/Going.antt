@@ -12,7 +12,8 @@ use Rattle.mem.specs.Slice.{splice_nil, length_splice, take_snoc}
 use Rattle.laws.specs.Lists.{All, none, more}
 use Rattle.laws.specs.MendPass.{Passing, pass}
 use Rattle.laws.specs.MendWalk.{pass_start, passed_all}
-use Rattle.laws.specs.MendWithin.{outside_none, Fine, fine_pass, grows_pass, lost_grows}
+use Rattle.laws.specs.MendWithin.{Fine}
+use Rattle.laws.proofs.MendWithin.{outside_none, fine_pass, grows_pass, lost_grows}
 use Rattle.mend.specs.declared.pass.Walk.{Walk}
 use Rattle.mend.specs.Walking.{listed, Begun, Stands, PassReady, Passed, AllReady, AllPassed}
 use Rattle.mend.proofs.Passing.{room_less}

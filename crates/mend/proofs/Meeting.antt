@@ -8,9 +8,9 @@ use lib.Dec.{ltb}
 use borrow.Author.Tests.{lt-ltb, le-ltb}
 use lib.ListN.{length, get_or, take}
 use lib.Seq.{get_or-take, length-take-le}
-use Rattle.laws.specs.Lists.{all_at}
+use Rattle.laws.proofs.Lists.{all_at}
 use Rattle.laws.specs.MendNumbers.{same_place}
-use Rattle.laws.specs.MendPass.{pass_few, pass_lost, pass_turned, pass_joined}
+use Rattle.laws.proofs.MendPass.{pass_few, pass_lost, pass_turned, pass_joined}
 use Rattle.mend.specs.declared.pass.Meets.TheVariants.{Top, Second, Neither}
 use Rattle.mend.specs.Losing.{BothIn}
 use Rattle.mend.specs.Walking.{MeetsReady, state_of, Met}

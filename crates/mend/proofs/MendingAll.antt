@@ -14,9 +14,10 @@ use Rattle.mem.specs.Packed.{packed, packed_append}
 use Rattle.rules.specs.Job.{job_stride, vertex_at, flag_at, sum_over}
 use Rattle.rules.specs.Mend.{traced, Mending, mended}
 use Rattle.rules.specs.MendCall.{vertices_most, traced_words, traced_from, mended_job, kept_lengths, kept_count, kept_words, lost_numbers, longest}
-use Rattle.laws.specs.Lists.{map_append}
+use Rattle.laws.proofs.Lists.{map_append}
 use Rattle.laws.specs.MendNumbers.{mending_of}
-use Rattle.laws.specs.MendWalked.{walked_by, walked_same}
+use Rattle.laws.specs.MendWalked.{walked_by}
+use Rattle.laws.proofs.MendWalked.{walked_same}
 use Rattle.mend.specs.declared.contours.Tally.{Tally}
 use Rattle.mend.specs.Contours.{ContourReady, ContourMended, AllReady, AllMended}
 use Rattle.mend.proofs.Counting.{vertices_from, mended_from, mended_turn, mended_end, mended_all, longest_at, rest_above, contour_inside, lost_most}

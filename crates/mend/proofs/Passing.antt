@@ -6,8 +6,8 @@ use Prim.Native.Nat.{ℕ, ◌+◌, ◌-◌, ◌≤◌, ◌<◌}
 use native.Mathlib.Omega.{arith}
 use lib.ListN.{length, get_or, set, length-append}
 use lib.Seq.{get_or-take, length-take-le}
-use Rattle.laws.specs.Lists.{all_at}
-use Rattle.laws.specs.MendNumbers.{length_carried_if}
+use Rattle.laws.proofs.Lists.{all_at}
+use Rattle.laws.proofs.MendNumbers.{length_carried_if}
 use Rattle.laws.specs.MendPass.{Passing, top_of, joining, losing, turning, pass}
 use Rattle.mend.specs.declared.pass.Walk.{Walk}
 use Rattle.mend.specs.declared.pass.Meets.{Meets}

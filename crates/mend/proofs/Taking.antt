@@ -8,10 +8,13 @@ use Prim.Native.Nat.{ℕ, ◌+◌, ◌-◌, ◌≤◌, ◌<◌}
 use native.Mathlib.Omega.{arith}
 use lib.ListN.{length, length-append}
 use Rattle.mem.specs.Loops.{times, times_end, times_turn, times_still}
-use Rattle.laws.specs.Lists.{all_imp}
-use Rattle.laws.specs.MendEnds.{Ending, end_turn, turn_still, turns_grow, turn_count}
-use Rattle.laws.specs.MendWithin.{outside_none, FineEnds, fine_turn}
-use Rattle.laws.specs.MendDry.{behind, turns_behind}
+use Rattle.laws.proofs.Lists.{all_imp}
+use Rattle.laws.specs.MendEnds.{Ending, end_turn}
+use Rattle.laws.proofs.MendEnds.{turn_still, turns_grow, turn_count}
+use Rattle.laws.specs.MendWithin.{FineEnds}
+use Rattle.laws.proofs.MendWithin.{outside_none, fine_turn}
+use Rattle.laws.specs.MendDry.{behind}
+use Rattle.laws.proofs.MendDry.{turns_behind}
 use Rattle.mend.specs.declared.ends.Span.{Span}
 use Rattle.mend.specs.Ending.{StandsAt, Held, end_of, TurnReady, Turned, TakeReady, Taken}
 use Rattle.mend.proofs.Passing.{room_less}

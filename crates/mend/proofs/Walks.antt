@@ -14,8 +14,10 @@ use Rattle.laws.specs.MendNumbers.{Numbered}
 use Rattle.laws.specs.MendEnds.{Ending, part_of, end_turn, ends_by}
 use Rattle.laws.specs.MendEnded.{end_start, ended_all}
 use Rattle.laws.specs.MendWalk.{passed_all}
-use Rattle.laws.specs.MendDry.{behind, turns_behind}
-use Rattle.laws.specs.MendWalked.{walked_by, walked_some, passed_fine, ended_fine}
+use Rattle.laws.specs.MendDry.{behind}
+use Rattle.laws.proofs.MendDry.{turns_behind}
+use Rattle.laws.specs.MendWalked.{walked_by}
+use Rattle.laws.proofs.MendWalked.{walked_some, passed_fine, ended_fine}
 use Rattle.mend.specs.declared.pass.Walk.{Walk}
 use Rattle.mend.specs.declared.ends.Span.{Span}
 use Rattle.mend.specs.Walking.{listed, Stands, AllReady, AllPassed}

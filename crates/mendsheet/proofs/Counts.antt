@@ -14,7 +14,7 @@ use Rattle.mem.specs.Packed.{packed}
 use Rattle.rules.specs.Job.{job_stride, sum_over, vertex_at, flag_at}
 use Rattle.rules.specs.Mend.{Traced, traced, Mending, mended}
 use Rattle.rules.specs.MendCall.{traced_from, mended_job, kept_lengths, kept_count, lost_numbers, traced_words, kept_words, longer, longest}
-use Rattle.laws.specs.Mend.{mend_counted}
+use Rattle.laws.proofs.Mend.{mend_counted}
 
 -- ---- a sum, element by element
 

@@ -12,7 +12,8 @@ use Rattle.mem.specs.Packed.{Every, every_of, every_at, every_append, every_same
 use Rattle.rules.specs.Mesh.{Polygon, no_polygon, polygon_at}
 use Rattle.rules.specs.Links.{none}
 use Rattle.rules.specs.Exits.{padded, corner_words}
-use Rattle.laws.specs.Lists.{All, all_imp, every_of_all, get_or_map_in}
+use Rattle.laws.specs.Lists.{All}
+use Rattle.laws.proofs.Lists.{all_imp, every_of_all, get_or_map_in}
 use Rattle.laws.specs.Links.{Shaped}
 use Rattle.laws.specs.Widths.{Narrow}
 use Rattle.records.specs.Layout.{vertex_size, polygon_size, most_corners, polygon_in, polygons_at, link_size}

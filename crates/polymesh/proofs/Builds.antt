@@ -20,10 +20,13 @@ use Rattle.rules.specs.declared.Refusal.{Refusal}
 use Rattle.rules.specs.declared.Refusal.TheVariants.{NoEarInContour, NoEarInHole}
 use Rattle.rules.specs.declared.Reply.{Reply}
 use Rattle.rules.specs.declared.Reply.TheVariants.{Built, Refused}
-use Rattle.laws.specs.Replies.{WasBuilt, was_refused, was_built}
-use Rattle.laws.specs.Lists.{All, all_imp}
+use Rattle.laws.specs.Replies.{WasBuilt}
+use Rattle.laws.proofs.Replies.{was_refused, was_built}
+use Rattle.laws.specs.Lists.{All}
+use Rattle.laws.proofs.Lists.{all_imp}
 use Rattle.laws.specs.Measures.{spares_in}
-use Rattle.laws.specs.Merge.{Good, Below, polygons_few}
+use Rattle.laws.specs.Merge.{Good, Below}
+use Rattle.laws.proofs.Merge.{polygons_few}
 use Rattle.records.specs.Layout.{most_corners}
 use Rattle.removals.specs.declared.site.Counts.{Counts}
 use Rattle.removals.specs.Site.{mesh_at, Stands}

@@ -13,8 +13,9 @@ use Rattle.rules.specs.Areas.{job_area}
 use Rattle.rules.specs.Build.{Contours, added, no_ear_in, built, linked, cleared, add_all, reply_of}
 use Rattle.rules.specs.declared.Refusal.TheVariants.{NoEarInContour, NoEarInHole}
 use Rattle.rules.specs.declared.Reply.TheVariants.{Built, Refused}
-use Rattle.laws.specs.Checks.{T-below-V}
-use Rattle.laws.specs.Build.{Balanced, all_added, removals, no_refusal}
+use Rattle.laws.proofs.Checks.{T-below-V}
+use Rattle.laws.specs.Build.{Balanced}
+use Rattle.laws.proofs.Build.{all_added, removals, no_refusal}
 use Rattle.contours.specs.declared.gather.Gathered.{Gathered}
 use Rattle.contours.specs.declared.gather.Gathered.TheVariants as Gather
 use Rattle.contours.specs.declared.ground.Ground.{Ground}

@@ -13,9 +13,11 @@ use Rattle.rules.specs.Plane.{InGrid, on_plane}
 use Rattle.rules.specs.Weld.{no_vertex}
 use Rattle.rules.specs.Mesh.{place_of}
 use Rattle.rules.specs.Links.{edges_of, links_of}
-use Rattle.laws.specs.Lists.{All, all_imp, every_of_all}
-use Rattle.laws.specs.Links.{links_shaped, portals_shaped}
-use Rattle.laws.specs.Merge.{Good, Below, Long, polygons_few}
+use Rattle.laws.specs.Lists.{All}
+use Rattle.laws.proofs.Lists.{all_imp, every_of_all}
+use Rattle.laws.proofs.Links.{links_shaped, portals_shaped}
+use Rattle.laws.specs.Merge.{Good, Below, Long}
+use Rattle.laws.proofs.Merge.{polygons_few}
 use Rattle.records.specs.Layout.{vertex_size, vertex_in, vertices_at, Placed, polygon_size, most_corners, polygon_in, polygons_at, Small, link_size}
 use Rattle.records.specs.Vertices.{length_vertices}
 use Rattle.records.specs.Polygons.{length_polygons}

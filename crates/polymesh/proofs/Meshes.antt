@@ -23,9 +23,10 @@ use Rattle.rules.specs.declared.Refusal.{Refusal}
 use Rattle.rules.specs.declared.Refusal.TheVariants.{BadCornerLimit, CountsDisagree, HighCoordinate, BadFlag, TooManyVertices, ShortBuffer}
 use Rattle.rules.specs.declared.Reply.{Reply}
 use Rattle.rules.specs.declared.Reply.TheVariants.{Refused}
-use Rattle.laws.specs.Checks.{Passed, checked, agreed}
-use Rattle.laws.specs.Widths.{written_fits}
-use Rattle.laws.specs.Own.{each_accepted}
+use Rattle.laws.specs.Checks.{Passed}
+use Rattle.laws.proofs.Checks.{checked, agreed}
+use Rattle.laws.proofs.Widths.{written_fits}
+use Rattle.laws.proofs.Own.{each_accepted}
 use Rattle.polymesh.specs.Layout.{words_of}
 use Rattle.polymesh.specs.Gather.{Admitted, comes_to}
 use Rattle.polymesh.specs.Build.{Room, BuildReady, lending, BuiltTo}

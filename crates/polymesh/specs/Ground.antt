@@ -14,9 +14,10 @@ use Rattle.rules.specs.Areas.{sum_of, mesh_area, stored_area, job_area, area_tak
 use Rattle.rules.specs.declared.Header.{Header}
 use Rattle.rules.specs.declared.Answer.{Answer}
 use Rattle.rules.specs.declared.Reply.TheVariants.{Built}
-use Rattle.laws.specs.Replies.{WasBuilt, was_built}
-use Rattle.laws.specs.Laws.{area_law}
-use Rattle.laws.specs.Exits.{reads_back}
+use Rattle.laws.specs.Replies.{WasBuilt}
+use Rattle.laws.proofs.Replies.{was_built}
+use Rattle.laws.proofs.Laws.{area_law}
+use Rattle.laws.proofs.Exits.{reads_back}
 
 -- the mesh and the log of the removals that the job comes to, and the area of what stands in u, read as n polygons and k vertices
 pub record GroundKept (j : Job) (b u : Lent) (n k : ℕ) : Type 0 where

@@ -9,7 +9,8 @@ use Rattle.rules.specs.Mesh.{Polygon}
 use Rattle.rules.specs.Merge.{no_pair, merge_value, greater, best_of_row, best_pair}
 use Rattle.rules.specs.declared.Vertex.{Vertex}
 use Rattle.rules.specs.declared.Pair.{Pair}
-use Rattle.laws.specs.Rows.{row_of, row_against, best_rows}
+use Rattle.laws.specs.Rows.{row_of, row_against}
+use Rattle.laws.proofs.Rows.{best_rows}
 
 module _ (vs : List Vertex) (nvp : ℕ) (ps : List Polygon) where
   -- polygon p against q, with the best pair so far

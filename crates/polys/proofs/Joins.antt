@@ -15,7 +15,7 @@ use Rattle.rules.specs.Links.{none}
 use Rattle.rules.specs.Exits.{padded}
 use Rattle.rules.specs.Mesh.{corner_round}
 use Rattle.rules.specs.Merge.{past_side, joined}
-use Rattle.laws.specs.Joins.{length_past}
+use Rattle.laws.proofs.Joins.{length_past}
 use Rattle.records.specs.Layout.{most_corners}
 use Rattle.records.specs.Values.{corners_of, polygon_of, Loaded, On}
 use Rattle.records.specs.Polygons.{length_corners, get_or_corners, padded_splice, poly_eq}

@@ -18,9 +18,11 @@ use Rattle.rules.specs.Mesh.{Polygon, polygon_at}
 use Rattle.rules.specs.Merge.{no_pair, merge_value, greater}
 use Rattle.rules.specs.declared.Vertex.{Vertex}
 use Rattle.rules.specs.declared.Pair.{Pair}
-use Rattle.laws.specs.Longest.{greater_first}
-use Rattle.laws.specs.Rows.{row_of, row_against, row_is}
-use Rattle.laws.specs.Stamps.{stamp_of, apart_value}
+use Rattle.laws.proofs.Longest.{greater_first}
+use Rattle.laws.specs.Rows.{row_of, row_against}
+use Rattle.laws.proofs.Rows.{row_is}
+use Rattle.laws.specs.Stamps.{stamp_of}
+use Rattle.laws.proofs.Stamps.{apart_value}
 use Rattle.records.specs.Layout.{vertex_size, polygon_size, vertex_in, polygon_in, vertices_at, polygons_at}
 use Rattle.records.specs.Values.{corners_from}
 use Rattle.records.specs.Polygons.{length_polygons}

@@ -15,9 +15,11 @@ use Rattle.rules.specs.Merge.{best_pair, joined, join_pair, merge_all}
 use Rattle.rules.specs.Fuel.{merging}
 use Rattle.rules.specs.declared.Vertex.{Vertex}
 use Rattle.rules.specs.declared.Pair.{Pair}
-use Rattle.laws.specs.Lists.{All, all_imp, every_of_all, every_swap}
-use Rattle.laws.specs.Merge.{Good, Below, Joinable, best_in, length_joined, join_once}
-use Rattle.laws.specs.Fuel.{length_join, merging_turns}
+use Rattle.laws.specs.Lists.{All}
+use Rattle.laws.proofs.Lists.{all_imp, every_of_all, every_swap}
+use Rattle.laws.specs.Merge.{Good, Below, Joinable}
+use Rattle.laws.proofs.Merge.{best_in, length_joined, join_once}
+use Rattle.laws.proofs.Fuel.{length_join, merging_turns}
 use Rattle.records.specs.Layout.{vertex_size, polygon_size, most_corners, vertex_in, vertices_at, polygons_at, polygon_records, Small}
 use Rattle.records.specs.Values.{to_poly, polygon_of, poly_words, Loaded, SwapReady}
 use Rattle.records.specs.Polygons.{length_polygons, length_records, polygons_are, put_are, tidy_of, loaded_of, stored_words}

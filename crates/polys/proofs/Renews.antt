@@ -10,7 +10,8 @@ use Rattle.mem.specs.Slice.{splice, splice_view}
 use Rattle.rules.specs.Mesh.{Polygon, polygon_at}
 use Rattle.rules.specs.Merge.{merge_value}
 use Rattle.rules.specs.declared.Pair.{Pair}
-use Rattle.laws.specs.Rows.{row_of, is_moved, is_reached, is_rival, is_stale, still, polygon_stays, row_stays}
+use Rattle.laws.specs.Rows.{row_of, is_moved, is_reached, is_rival, is_stale}
+use Rattle.laws.proofs.Rows.{still, polygon_stays, row_stays}
 use Rattle.laws.specs.Stamps.{stamp_of}
 use Rattle.records.specs.Layout.{vertices_at, polygons_at}
 use Rattle.records.specs.Polygons.{length_polygons}

@@ -13,13 +13,14 @@ use Rattle.rules.specs.Mesh.{Polygon, no_polygon}
 use Rattle.rules.specs.Merge.{best_pair, join_pair, merge_all}
 use Rattle.rules.specs.declared.Pair.{Pair}
 use Rattle.laws.specs.Lists.{All}
-use Rattle.laws.specs.Merge.{Good, Below, Joinable, join_once}
-use Rattle.laws.specs.Fuel.{length_join}
+use Rattle.laws.specs.Merge.{Good, Below, Joinable}
+use Rattle.laws.proofs.Merge.{join_once}
+use Rattle.laws.proofs.Fuel.{length_join}
 use Rattle.records.specs.Layout.{vertex_size, polygon_size, vertex_in, vertices_at, polygons_at, polygon_records, Small, Tidy}
 use Rattle.records.specs.Polygons.{length_polygons, length_records}
 use Rattle.records.specs.Blanks.{Blanked, blanks_small, blanked_are, blanked_tidy}
 use Rattle.polys.specs.Ready.{MergeReady, JoinReady, MergedTo}
-use Rattle.laws.specs.Rows.{after_join}
+use Rattle.laws.proofs.Rows.{after_join}
 use Rattle.polys.specs.Rows.{row_size, wiped, RowsReady, RowsKept, RowsIf, RenewIf, KeptIf, MergedOver}
 use Rattle.polys.proofs.Merges.{smalls, are, Joining, joining_begin, joining_none, joining_more, joining_end, ready_now, join_ready, some_left}
 use Rattle.polys.proofs.Keeps.{vertices_under, polygons_under, ready_under}

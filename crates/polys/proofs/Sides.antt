@@ -9,8 +9,8 @@ use lib.Dec.{eqb}
 use lib.ListN.{length}
 use Rattle.mem.specs.Loops.{Left, turn, next, end}
 use Rattle.rules.specs.Lists.{down}
-use Rattle.laws.specs.Lists.{down_turn}
-use Rattle.laws.specs.Ring.{next_in}
+use Rattle.laws.proofs.Lists.{down_turn}
+use Rattle.laws.proofs.Ring.{next_in}
 use Rattle.rules.specs.Mesh.{side_start, side_end}
 use Rattle.rules.specs.Merge.{is_along, is_opposite, is_equal, sides_at, or_sides, shared_by, shared_side}
 use Rattle.rules.specs.declared.Shared.{Shared}

@@ -14,9 +14,9 @@ use Rattle.rules.specs.declared.Point.{Point}
 use Rattle.rules.specs.declared.Vertex.{Vertex}
 use Rattle.rules.specs.declared.Pair.{Pair}
 use Rattle.rules.specs.declared.Shared.TheVariants.{Sides, NoSide}
-use Rattle.laws.specs.Lists.{all_at}
+use Rattle.laws.proofs.Lists.{all_at}
 use Rattle.laws.specs.Merge.{Good, Below}
-use Rattle.laws.specs.Shared.{shared_at}
+use Rattle.laws.proofs.Shared.{shared_at}
 use Rattle.records.specs.Layout.{polygon_size, most_corners, vertices_at, polygons_at}
 use Rattle.records.specs.Values.{corners_from, Stands, CornerOf}
 use Rattle.records.specs.Polygons.{length_polygons}

@@ -6,8 +6,9 @@ use Rattle.mem.specs.Slice.{view, length_view, get_or_view}
 use Rattle.mem.specs.Loops.{block_fits}
 use Rattle.rules.specs.Lists.{next}
 use Rattle.rules.specs.Mesh.{Polygon, polygon_at, side_end}
-use Rattle.laws.specs.Ring.{next_below}
-use Rattle.laws.specs.Lists.{All, all_at}
+use Rattle.laws.proofs.Ring.{next_below}
+use Rattle.laws.specs.Lists.{All}
+use Rattle.laws.proofs.Lists.{all_at}
 use Rattle.laws.specs.Merge.{Below}
 use Rattle.records.specs.Layout.{polygon_size, most_corners, polygons_at, Small}
 use Rattle.records.specs.Values.{corners_from, Stands, CornerOf}

@@ -13,8 +13,9 @@ use Rattle.rules.specs.Lists.{next, swap_remove}
 use Rattle.rules.specs.Links.{none}
 use Rattle.rules.specs.Exits.{padded}
 use Rattle.rules.specs.Mesh.{Polygon, no_polygon, polygon_at, side_end}
-use Rattle.laws.specs.Ring.{next_below}
-use Rattle.laws.specs.Lists.{All, all_at}
+use Rattle.laws.proofs.Ring.{next_below}
+use Rattle.laws.specs.Lists.{All}
+use Rattle.laws.proofs.Lists.{all_at}
 use Rattle.laws.specs.Merge.{Below}
 use Rattle.records.specs.declared.polygon.Poly.{Poly}
 use Rattle.records.specs.Layout.{polygon_size, most_corners, spare_words, polygon_in, polygons_at, polygon_words, polygon_records, Small, Tidy}

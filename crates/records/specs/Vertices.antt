@@ -12,7 +12,7 @@ use Rattle.mem.specs.Tab.{tab, tab_snoc, tab_cong, length_tab, get_or_tab, block
 use Rattle.mem.specs.Packed.{Every, every_of, packed, packed_append, packed_take, packed_drop, packed_set, length_packed, packed_at}
 use Rattle.mem.specs.Cases.{lt_or_le, eq_or_ne}
 use Rattle.rules.specs.Lists.{without}
-use Rattle.laws.specs.Lists.{without_below, without_above, length_without}
+use Rattle.laws.proofs.Lists.{without_below, without_above, length_without}
 use Rattle.rules.specs.Plane.{InGrid, on_plane}
 use Rattle.rules.specs.Weld.{no_vertex}
 use Rattle.rules.specs.Mesh.{place_of}

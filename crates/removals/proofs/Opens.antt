@@ -13,9 +13,11 @@ use Rattle.rules.specs.Removal.{polygons_left, sides_left, walk, hole_of}
 use Rattle.rules.specs.declared.Vertex.{Vertex}
 use Rattle.rules.specs.declared.Side.{Side}
 use Rattle.rules.specs.declared.ChainPoint.{ChainPoint}
-use Rattle.laws.specs.Lists.{All, all_imp, length_without}
-use Rattle.laws.specs.Merge.{Good, Below, Long, polygons_few}
-use Rattle.laws.specs.Removal.{sides_few, walk_counts}
+use Rattle.laws.specs.Lists.{All}
+use Rattle.laws.proofs.Lists.{all_imp, length_without}
+use Rattle.laws.specs.Merge.{Good, Below, Long}
+use Rattle.laws.proofs.Merge.{polygons_few}
+use Rattle.laws.proofs.Removal.{sides_few, walk_counts}
 use Rattle.records.specs.Layout.{vertex_size, vertices_at, marks_at, vertex_records, polygon_size, polygons_at, polygon_records, Small, sides_at, side_records, point_size, points_at, point_records}
 use Rattle.records.specs.Vertices.{length_vertices, length_marks, length_vertex_records}
 use Rattle.records.specs.Polygons.{length_polygons, length_records}

@@ -23,9 +23,10 @@ use Rattle.rules.specs.Removal.{polygons_left, places_of, fill_hole, remove_vert
 use Rattle.rules.specs.Removal as Rules
 use Rattle.rules.specs.declared.Vertex.{Vertex}
 use Rattle.rules.specs.declared.ChainPoint.{ChainPoint}
-use Rattle.laws.specs.Lists.{all_without, every_of_all, length_without}
-use Rattle.laws.specs.Merge.{Below, polygons_few}
-use Rattle.laws.specs.Removal.{filled, hole_corners}
+use Rattle.laws.proofs.Lists.{all_without, every_of_all, length_without}
+use Rattle.laws.specs.Merge.{Below}
+use Rattle.laws.proofs.Merge.{polygons_few}
+use Rattle.laws.proofs.Removal.{filled, hole_corners}
 use Rattle.records.specs.Layout.{vertex_size, vertices_at, marks_at, with_marks, vertex_records, polygon_size, most_corners, polygons_at, polygon_records, Small, point_size, points_at, point_records}
 use Rattle.records.specs.Vertices.{length_vertices, length_vertex_records}
 use Rattle.records.specs.Polygons.{length_polygons, length_records, records_append}
@@ -45,7 +46,8 @@ use Rattle.removals.specs.Stages.{Stage, stage_size, write_polygons, write_scrat
 use Rattle.removals.proofs.Opens.{stands_few}
 use Rattle.removals.specs.Standing.{stands_wider}
 use Rattle.holes.specs.Small.{small_good}
-use Rattle.laws.specs.Left.{Left, left_over}
+use Rattle.laws.specs.Left.{Left}
+use Rattle.laws.proofs.Left.{left_over}
 
 pub open_ready : {w : List ℕ} {s : Site} {n : Counts} {nvp rem : ℕ} → RemoveReady w s n nvp rem → RemoveReady w s n most_corners rem
 open_ready r = record { stands = stands_wider r.stands; below = r.below; may = r.may }

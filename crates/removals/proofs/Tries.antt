@@ -15,9 +15,10 @@ use Rattle.rules.specs.Removal.{Removal, goes, remove_vertex, remove_from, remov
 use Rattle.rules.specs.Removal as Rules
 use Rattle.laws.specs.Measures.{spares_in}
 use Rattle.laws.specs.Lists.{none, total}
-use Rattle.laws.specs.Removal.{Step, Shorter, removed_ok, corners_removed}
-use Rattle.laws.specs.Build.{goes_may, long_enough}
-use Rattle.laws.specs.Fuel.{trying_turns, tried_from_the_start}
+use Rattle.laws.specs.Removal.{Step, Shorter}
+use Rattle.laws.proofs.Removal.{removed_ok, corners_removed}
+use Rattle.laws.proofs.Build.{goes_may, long_enough}
+use Rattle.laws.proofs.Fuel.{trying_turns, tried_from_the_start}
 use Rattle.records.specs.Layout.{vertex_size, mark_place, mark_in, marks_at}
 use Rattle.records.specs.Vertices.{length_vertices}
 use Rattle.records.specs.Polygons.{length_polygons}

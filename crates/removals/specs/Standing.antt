@@ -8,9 +8,11 @@ use Rattle.mem.specs.Packed.{Every}
 use Rattle.mem.specs.Shelves.{length_shelved, shelved_again}
 use Rattle.mem.specs.Zeros.{with_zeros, length_zeros}
 use Rattle.rules.specs.Mesh.{Polygon, no_polygon, Mesh}
-use Rattle.laws.specs.Lists.{All, all_imp}
+use Rattle.laws.specs.Lists.{All}
+use Rattle.laws.proofs.Lists.{all_imp}
 use Rattle.laws.specs.Measures.{spares_in}
-use Rattle.laws.specs.Merge.{Good, Below, polygons_few}
+use Rattle.laws.specs.Merge.{Good, Below}
+use Rattle.laws.proofs.Merge.{polygons_few}
 use Rattle.laws.specs.Removal.{Sound}
 use Rattle.records.specs.Layout.{vertex_size, vertex_records, polygon_size, most_corners, polygon_records, Small}
 use Rattle.records.specs.Vertices.{length_vertex_records}

@@ -22,13 +22,14 @@ use Rattle.rules.specs.declared.Header.{Header}
 use Rattle.rules.specs.declared.Answer.{Answer}
 use Rattle.rules.specs.declared.Refusal.{Refusal}
 use Rattle.rules.specs.declared.Reply.TheVariants.{Built, Refused}
-use Rattle.laws.specs.Lists.{all_at}
+use Rattle.laws.proofs.Lists.{all_at}
 use Rattle.laws.specs.Removal.{Sound}
-use Rattle.laws.specs.Exits.{reads_back}
-use Rattle.laws.specs.Checks.{T-below-V, V-below-all}
-use Rattle.laws.specs.Build.{bounded}
-use Rattle.laws.specs.Reached.{built_passed}
-use Rattle.laws.specs.Replies.{WasBuilt, was_refused, was_built}
+use Rattle.laws.proofs.Exits.{reads_back}
+use Rattle.laws.proofs.Checks.{T-below-V, V-below-all}
+use Rattle.laws.proofs.Build.{bounded}
+use Rattle.laws.proofs.Reached.{built_passed}
+use Rattle.laws.specs.Replies.{WasBuilt}
+use Rattle.laws.proofs.Replies.{was_refused, was_built}
 use Rattle.stored.specs.Stored.{lent_of, MeshReady}
 use Rattle.sheet.specs.Rows.{top_text}
 use Rattle.sheet.specs.Enough.{sheet_lengths, sheet_enough}

@@ -6,8 +6,8 @@ use Rattle.rules.specs.Job.{Job, count_all, count_v, count_t}
 use Rattle.rules.specs.Checks.{Lent, least_lengths, lengths_of, work_words}
 use Rattle.rules.specs.Build.{outcome}
 use Rattle.rules.specs.Sheet.{declared_most, outcome_of}
-use Rattle.laws.specs.Checks.{T-below-V, V-below-all}
-use Rattle.laws.specs.Buffers.{enough}
+use Rattle.laws.proofs.Checks.{T-below-V, V-below-all}
+use Rattle.laws.proofs.Buffers.{enough}
 
 -- the lengths of buffers that have room for 96 vertices and 96 polygons of 12 corners
 abbrev pub sheet_lengths : List ℕ

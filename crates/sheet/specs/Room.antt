@@ -19,12 +19,14 @@ use Rattle.rules.specs.declared.Vertex.{Vertex}
 use Rattle.lines.specs.Print.{Printed}
 use Rattle.lines.specs.Printing.{printed_same_length, decimal_short, signed_short, line_short}
 use Rattle.lines.specs.Pieces.{texts_from, texts_short}
-use Rattle.laws.specs.Lists.{All, all_at}
+use Rattle.laws.specs.Lists.{All}
+use Rattle.laws.proofs.Lists.{all_at}
 use Rattle.laws.specs.Merge.{Good, Below}
-use Rattle.laws.specs.Build.{bounded}
-use Rattle.laws.specs.Links.{Shaped, links_shaped, portals_shaped}
-use Rattle.laws.specs.Checks.{T-below-V, V-below-all}
-use Rattle.laws.specs.Reached.{built_links, built_passed}
+use Rattle.laws.proofs.Build.{bounded}
+use Rattle.laws.specs.Links.{Shaped}
+use Rattle.laws.proofs.Links.{links_shaped, portals_shaped}
+use Rattle.laws.proofs.Checks.{T-below-V, V-below-all}
+use Rattle.laws.proofs.Reached.{built_links, built_passed}
 use Rattle.rules.specs.Links.{links_of}
 
 -- how many bytes an output has

@@ -9,7 +9,7 @@ use Rattle.mem.specs.Cases.{lt_or_le}
 use Rattle.mem.specs.Loops.{over, over_turn, over_end, over_cong}
 use Rattle.rules.specs.Mesh.{Polygon, no_polygon, polygon_at}
 use Rattle.rules.specs.Stl.{facet_count}
-use Rattle.laws.specs.Stl.{count_fits}
+use Rattle.laws.proofs.Stl.{count_fits}
 use Rattle.stl.specs.Steps.{polygons_in, CountReady}
 use Rattle.stl.proofs.Fanning.{row_at, polygons_long, row_is, row_few}
 

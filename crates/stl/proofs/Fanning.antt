@@ -18,9 +18,9 @@ use Rattle.rules.specs.Checks.{vertex_stride}
 use Rattle.rules.specs.Exits.{vertex_of, up_to_none, stored_polygon}
 use Rattle.rules.specs.Stl.{corner_of, facet_of, fan_of, facets_of, facet_bytes}
 use Rattle.rules.specs.declared.Vertex.{Vertex}
-use Rattle.laws.specs.HandedWords.{up_to_few}
-use Rattle.laws.specs.StlBytes.{facet_long}
-use Rattle.laws.specs.Stl.{facet_is, over_through}
+use Rattle.laws.proofs.HandedWords.{up_to_few}
+use Rattle.laws.proofs.StlBytes.{facet_long}
+use Rattle.laws.proofs.Stl.{facet_is, over_through}
 use Rattle.lines.specs.Print.{Room, Printed}
 use Rattle.lines.specs.Pieces.{texts_from, Pieces, pieces_none, pieces_room, pieces_more, pieces_all, packed_over}
 use Rattle.stored.specs.Stored.{lent_of, stored_vertices, vertex_in}

@@ -14,7 +14,7 @@ use Rattle.rules.specs.declared.Found.{Found}
 use Rattle.rules.specs.declared.Found.TheVariants.{At, Nothing}
 use Rattle.rules.specs.declared.UnstlReply.{UnstlReply}
 use Rattle.rules.specs.declared.UnstlReply.TheVariants.{Taken, BadLength, NotZero, ShortPoints}
-use Rattle.laws.specs.StlWords.{facets_in_long}
+use Rattle.laws.proofs.StlWords.{facets_in_long}
 
 module _ (bs : List ℕ) where
   -- ---- a file of the right length

@@ -21,11 +21,11 @@ use Rattle.rules.specs.declared.Soundness.{Soundness}
 use Rattle.rules.specs.declared.Soundness.TheVariants.{Sound, Broken}
 use Rattle.rules.specs.declared.StlReply.{StlReply}
 use Rattle.rules.specs.declared.StlReply.TheVariants.{Written, BadMesh, BadScale, ShortFile}
-use Rattle.laws.specs.Handed.{sound_exactly}
-use Rattle.laws.specs.HandedWords.{corners_read, corner_read}
-use Rattle.laws.specs.Stl.{file_is_long}
-use Rattle.laws.specs.StlWords.{file_written}
-use Rattle.laws.specs.StlCall.{sound_reply, broken_reply}
+use Rattle.laws.proofs.Handed.{sound_exactly}
+use Rattle.laws.proofs.HandedWords.{corners_read, corner_read}
+use Rattle.laws.proofs.Stl.{file_is_long}
+use Rattle.laws.proofs.StlWords.{file_written}
+use Rattle.laws.proofs.StlCall.{sound_reply, broken_reply}
 use Rattle.lines.specs.Print.{Printed}
 use Rattle.checker.specs.Asked.{handed_in}
 use Rattle.stored.specs.Stored.{lent_of, stored_vertices}

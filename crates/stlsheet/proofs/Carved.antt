@@ -23,11 +23,12 @@ use Rattle.rules.specs.declared.Answer.{Answer}
 use Rattle.rules.specs.declared.Refusal.{Refusal}
 use Rattle.rules.specs.declared.Reply.{Reply}
 use Rattle.rules.specs.declared.Reply.TheVariants.{Built, Refused}
-use Rattle.laws.specs.Build.{bounded}
-use Rattle.laws.specs.Carved.{built_is_carved}
-use Rattle.laws.specs.Reached.{built_passed}
-use Rattle.laws.specs.Replies.{WasBuilt, was_refused, was_built}
-use Rattle.laws.specs.Stl.{sum_most}
+use Rattle.laws.proofs.Build.{bounded}
+use Rattle.laws.proofs.Carved.{built_is_carved}
+use Rattle.laws.proofs.Reached.{built_passed}
+use Rattle.laws.specs.Replies.{WasBuilt}
+use Rattle.laws.proofs.Replies.{was_refused, was_built}
+use Rattle.laws.proofs.Stl.{sum_most}
 use Rattle.sheet.specs.declared.heading.Heading.{Heading}
 use Rattle.sheet.specs.Reading.{sheet_of, with_lists}
 use Rattle.sheet.specs.Room.{out_most, refused_room, few_corners}

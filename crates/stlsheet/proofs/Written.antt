@@ -23,7 +23,7 @@ use Rattle.rules.specs.declared.Fault.{Fault}
 use Rattle.rules.specs.declared.Soundness.TheVariants.{Sound}
 use Rattle.rules.specs.declared.StlReply.{StlReply}
 use Rattle.rules.specs.declared.StlReply.TheVariants.{Written, BadMesh, BadScale, ShortFile}
-use Rattle.laws.specs.StlCall.{sound_reply, fits_written, mesh_file_long, written_sound}
+use Rattle.laws.proofs.StlCall.{sound_reply, fits_written, mesh_file_long, written_sound}
 use Rattle.lines.specs.Print.{Printed}
 use Rattle.stl.specs.Steps.{scale_in}
 use Rattle.stlsheet.specs.Carving.{written_text}

@@ -12,7 +12,8 @@ use Rattle.mem.specs.Packed.{every_of, packed, length_packed, packed_view, Laid,
 use Rattle.rules.specs.Plane.{origin, InGrid, area}
 use Rattle.rules.specs.Checks.{vertex_stride}
 use Rattle.rules.specs.declared.Point.{Point}
-use Rattle.laws.specs.Lists.{All, all_head, all_tail, all_of_lem, get_or_map_in}
+use Rattle.laws.specs.Lists.{All}
+use Rattle.laws.proofs.Lists.{all_head, all_tail, all_of_lem, get_or_map_in}
 use Rattle.plane.specs.Points.{point_of, points_in, GridWords}
 use Rattle.stored.specs.Stored.{place_in, places_of, place_words, PolygonReady}
 

@@ -21,8 +21,9 @@ use Rattle.rules.specs.Checks.{vertex_stride}
 use Rattle.rules.specs.Exits.{vertex_of, up_to_none, stored_polygon, decoded}
 use Rattle.rules.specs.Areas.{sum_of, points_of, polygon_area, stored_area}
 use Rattle.rules.specs.declared.Point.{Point}
-use Rattle.laws.specs.Lists.{All, all_head, all_tail, all_of_lem, map_same}
-use Rattle.laws.specs.HandedWords.{up_to_few}
+use Rattle.laws.specs.Lists.{All}
+use Rattle.laws.proofs.Lists.{all_head, all_tail, all_of_lem, map_same}
+use Rattle.laws.proofs.HandedWords.{up_to_few}
 use Rattle.plane.specs.Sizes.{D-within}
 use Rattle.stored.specs.Stored.{lent_of, stored_in, stored_vertices, place_in, places_of, PolygonReady, MeshReady}
 use Rattle.stored.specs.Areas.{sum_more}

@@ -8,7 +8,7 @@ use Rattle.mem.specs.Tab.{tab, tab_snoc}
 use Rattle.rules.specs.Checks.{Lent}
 use Rattle.rules.specs.Exits.{stored_polygon, decoded}
 use Rattle.rules.specs.Areas.{sum_of, points_of, polygon_area, stored_area}
-use Rattle.laws.specs.Lists.{sum_append}
+use Rattle.laws.proofs.Lists.{sum_append}
 use Rattle.stored.specs.Stored.{lent_of, stored_in}
 
 module _ {A : Type 0} (f : A → ℤ) where

@@ -4,7 +4,7 @@ use Rattle.std.specs.Prelude.{◌≡◌, List, ℕ, ◌+◌, ◌≤◌, length, 
 use Rattle.std.proofs.Common.{sym, ◌∙◌, arith, take-take}
 use Rattle.mem.specs.Slice.{view, length_view}
 use Rattle.rules.specs.Exits.{up_to_none}
-use Rattle.laws.specs.HandedWords.{up_to_few}
+use Rattle.laws.proofs.HandedWords.{up_to_few}
 
 -- the row of nvp words at `from` is lent as m words, and c is its count
 module _ (ps : List ℕ) (from nvp m c : ℕ) (e : m ≡ nvp) (h : from + nvp ≤ length ps)

@@ -17,8 +17,8 @@ use Rattle.rules.specs.Lists.{prev, count}
 use Rattle.rules.specs.Mesh.{Polygon, polygon_at}
 use Rattle.rules.specs.Removal.{holds, untouched_side, side_into, untouched, dropped, dropped_side}
 use Rattle.rules.specs.declared.Side.{Side}
-use Rattle.laws.specs.Lists.{map_append}
-use Rattle.laws.specs.Ring.{prev_below}
+use Rattle.laws.proofs.Lists.{map_append}
+use Rattle.laws.proofs.Ring.{prev_below}
 use Rattle.records.specs.Layout.{polygon_size, polygons_at, most_corners, side_size, side_words, side_records}
 use Rattle.records.specs.Values.{corners_of, corners_from, polygon_of, On}
 use Rattle.records.specs.Polygons.{length_corners}

@@ -18,9 +18,9 @@ use Rattle.rules.specs.Lists.{swap_remove}
 use Rattle.rules.specs.Mesh.{Polygon, no_polygon, polygon_at}
 use Rattle.rules.specs.Removal.{holds, untouched, TakingOut, take_one, taken_out, sides_left}
 use Rattle.rules.specs.Fuel.{taking}
-use Rattle.laws.specs.Lists.{swap_length}
-use Rattle.laws.specs.Removal.{length_sides}
-use Rattle.laws.specs.Fuel.{taking_turns, taken_out_lem}
+use Rattle.laws.proofs.Lists.{swap_length}
+use Rattle.laws.proofs.Removal.{length_sides}
+use Rattle.laws.proofs.Fuel.{taking_turns, taken_out_lem}
 use Rattle.records.specs.Layout.{polygon_size, polygon_in, polygons_at, Small, most_corners, side_size, side_records}
 use Rattle.records.specs.Values.{polygon_of, Loaded}
 use Rattle.records.specs.Polygons.{length_polygons, loaded_of}

@@ -10,9 +10,10 @@ use Rattle.mem.specs.Slice.{view, splice, splice_append, splice_whole, length_sp
 use Rattle.rules.specs.Removal.{Walk, walk_one, walk_once, walk_start, walk}
 use Rattle.rules.specs.Fuel.{passing, walking}
 use Rattle.rules.specs.declared.Side.{Side}
-use Rattle.laws.specs.Walks.{one_left}
-use Rattle.laws.specs.Fuel.{passing_turns, walked_once, walking_turns, empty_still, once_fewer}
-use Rattle.laws.specs.Removal.{walk_counts}
+use Rattle.laws.proofs.Walks.{one_left}
+use Rattle.laws.proofs.Fuel.{passing_turns, walked_once, walking_turns}
+use Rattle.laws.proofs.Passes.{empty_still, once_fewer}
+use Rattle.laws.proofs.Removal.{walk_counts}
 use Rattle.records.specs.Layout.{sides_at, point_size, point_records}
 use Rattle.records.specs.Fixed.{side_fixed, point_fixed, fixed_count, fixed_length, fixed_view, fixed_words}
 use Rattle.trails.specs.declared.trail.Trail.{Trail}

@@ -7,8 +7,8 @@ use Rattle.mem.specs.Loops.{each, each_turn, each_end}
 use Rattle.rules.specs.Weld.{Welded, add_vertex, weld_one, weld_all}
 use Rattle.rules.specs.Job.{vertex_at, flag_at, contour_vertices, contour_flags}
 use Rattle.rules.specs.declared.Vertex.{Vertex}
-use Rattle.laws.specs.Weld.{vertex_added}
-use Rattle.laws.specs.Contours.{length_contour, get_or_contour}
+use Rattle.laws.proofs.Weld.{vertex_added}
+use Rattle.laws.proofs.Contours.{length_contour, get_or_contour}
 use Rattle.records.specs.Layout.{vertices_at, marks_at}
 use Rattle.records.specs.Vertices.{length_vertices}
 use Rattle.weld.specs.declared.find.Tables.{Tables}

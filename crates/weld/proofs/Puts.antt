@@ -12,7 +12,7 @@ use Rattle.mem.specs.Chain.{nexts}
 use Rattle.rules.specs.Weld.{no_vertex, bucket, highest_below, number_or, number_of, flagged, add_vertex}
 use Rattle.rules.specs.declared.Vertex.{Vertex}
 use Rattle.rules.specs.declared.Found.TheVariants.{At, Nothing}
-use Rattle.laws.specs.Weld.{found_below}
+use Rattle.laws.proofs.Weld.{found_below}
 use Rattle.records.specs.Layout.{vertex_size, mark_place, vertex_words, vertices_at, marks_at, vertex_records}
 use Rattle.records.specs.Vertices.{length_vertices, length_vertex_records, length_marks, records_snoc, records_mark, words_at}
 use Rattle.weld.specs.declared.find.Tables.{Tables}

@@ -9,7 +9,8 @@ use Rattle.mem.specs.Tab.{get_or_blocks}
 use Rattle.mem.specs.Loops.{over, run, block_fits, Left, turn, end, next as over-next}
 use Rattle.mem.specs.Chain.{highest, firsts_at, nexts_at}
 use Rattle.laws.specs.Searches
-use Rattle.laws.specs.Searches.{walk_in_lem, walk_found, walk_next, walk_less}
+use Rattle.laws.proofs.Searches as SearchesProofs
+use Rattle.laws.proofs.Searches.{walk_in_lem, walk_found, walk_next, walk_less}
 use Rattle.rules.specs.Lists.{apart}
 use Rattle.rules.specs.Weld.{no_vertex, bucket, is_same, highest_below}
 use Rattle.rules.specs.declared.Vertex.{Vertex}
@@ -86,7 +87,7 @@ keyed height vs v k e = same_key height (get_or vs k no_vertex) v e
 
 pub walk_none : (height : ℕ) (vs : List Vertex) (v : Vertex) (n : ℕ) {link : ℕ} → Walk height vs v n link → link ≤ 0 → Nothing ≡ highest_below height vs v n
 unfolding highest_below
-walk_none height vs v n r h = Searches.walk_none (same_as height vs v) (key_of vs) (bucket v.x v.z) (keyed height vs v) n r h
+walk_none height vs v n r h = SearchesProofs.walk_none (same_as height vs v) (key_of vs) (bucket v.x v.z) (keyed height vs v) n r h
 
 -- ---- the words that the code reads
 

@@ -11,8 +11,8 @@ use Rattle.mem.specs.Chain.{firsts, nexts, length_firsts, length_nexts, firsts_n
 use Rattle.rules.specs.Plane.{InGrid, on_plane}
 use Rattle.rules.specs.Weld.{bucket}
 use Rattle.rules.specs.Job.{vertex_at, contour_vertices, contour_flags}
-use Rattle.laws.specs.Weld.{welded_grid}
-use Rattle.laws.specs.Contours.{length_contour, get_or_contour}
+use Rattle.laws.proofs.Weld.{welded_grid}
+use Rattle.laws.proofs.Contours.{length_contour, get_or_contour}
 use Rattle.rules.specs.declared.Vertex.{Vertex}
 use Rattle.records.specs.Layout.{vertex_size, vertices_at, marks_at, with_marks, vertex_records, Placed}
 use Rattle.records.specs.Vertices.{length_vertices, length_marks, length_vertex_records, vertices_are, marks_are}

@@ -1,8 +1,8 @@
 -- `checker::check::check_mesh` meets its contract: a sound mesh is consistent, and goes on to 43 and 44; a fault is the verdict. Assumes nothing.
 use mathlib.Core.Path.{sym, ◌∙◌}
 use Rattle.rules.specs.Checker.{Claim}
-use Rattle.laws.specs.Handed.{sound_exactly}
-use Rattle.laws.specs.Checker.{sound_passes}
+use Rattle.laws.proofs.Handed.{sound_exactly}
+use Rattle.laws.proofs.Checker.{sound_passes}
 use Rattle.checker.specs.Asked.{claim_in}
 use Rattle.checker.proofs.Verdicts.{sound_last, unsound}
 use borrow.Author.Rules.{rules}

@@ -1,7 +1,7 @@
 -- `checker::check::soundness_of` meets its contract: buffers that hold leave it to the rows. Assumes nothing.
 use mathlib.Core.Path.{sym, ◌∙◌}
 use Rattle.rules.specs.Handed.{Handed}
-use Rattle.laws.specs.Handed.{good_buffers, in_order_lem, out_of_order}
+use Rattle.laws.proofs.Handed.{good_buffers, in_order_lem, out_of_order}
 use Rattle.checker.specs.Asked.{handed_in}
 use borrow.Author.Rules.{rules}
 use Rattle.checker.proofs.check.soundness_of.Statement.{statement}

@@ -1,7 +1,7 @@
 -- `checker::corners::row_holds` meets its contract: each way out is the test with its parts known. Assumes nothing.
 use mathlib.Core.Path.{sym, ◌∙◌}
 use native.Mathlib.Omega.{arith}
-use Rattle.laws.specs.HandedWords.{up_to_few}
+use Rattle.laws.proofs.HandedWords.{up_to_few}
 use Rattle.checker.proofs.Rows.{too_few, not_vertices, rest_decides}
 use borrow.Author.Rules.{rules}
 use Rattle.checker.proofs.corners.row_holds.Statement.{statement}

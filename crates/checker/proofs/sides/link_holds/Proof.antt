@@ -3,7 +3,7 @@ use mathlib.Core.Path.{◌∙◌}
 use Prim.Native.Nat.{◌<◌}
 use native.Mathlib.Omega.{arith}
 use lib.ListN.{length}
-use Rattle.laws.specs.Ring.{next_below}
+use Rattle.laws.proofs.Ring.{next_below}
 use Rattle.checker.proofs.LinkCases.{open_side, past_last, itself, another}
 use borrow.Author.Rules.{rules}
 use Rattle.checker.proofs.sides.link_holds.Statement.{statement}

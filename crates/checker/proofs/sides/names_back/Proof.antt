@@ -2,7 +2,7 @@
 use Prim.Native.Nat.{◌<◌}
 use native.Mathlib.Omega.{arith}
 use lib.ListN.{length}
-use Rattle.laws.specs.Ring.{next_below}
+use Rattle.laws.proofs.Ring.{next_below}
 use Rattle.checker.proofs.Names.{not_from, not_to, link_decides}
 use borrow.Author.Rules.{rules}
 use Rattle.checker.proofs.sides.names_back.Statement.{statement}

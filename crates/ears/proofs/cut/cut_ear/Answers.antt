@@ -9,8 +9,8 @@ use lib.Dec.{ltb}
 use lib.ListN.{take, drop}
 use Rattle.mem.specs.Slice.{view, splice, length_view}
 use Rattle.rules.specs.Lists.{without}
-use Rattle.laws.specs.Ring.{next_below}
-use Rattle.laws.specs.Ring.{prev_below}
+use Rattle.laws.proofs.Ring.{next_below}
+use Rattle.laws.proofs.Ring.{prev_below}
 use Rattle.ears.proofs.Parts.{gap_ready, ear_cut}
 use Rattle.mem.specs.Slice.{lent_part}
 use Rattle.ears.proofs.cut.cut_ear.Goals as goal

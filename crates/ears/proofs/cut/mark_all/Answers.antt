@@ -1,6 +1,6 @@
 use Prim.Native.Nat.{◌-◌}
 use native.Mathlib.Omega.{arith}
-use Rattle.laws.specs.Ring.{next_below}
+use Rattle.laws.proofs.Ring.{next_below}
 use Rattle.ears.proofs.Parts.{mark_none, mark_more, mark_all_lem}
 use Rattle.ears.proofs.cut.mark_all.Goals as goal
 

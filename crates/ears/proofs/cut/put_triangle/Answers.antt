@@ -3,7 +3,7 @@ use Prim.Native.Nat.{◌<◌}
 use native.Mathlib.Omega.{arith}
 use borrow.Author.Rules.{rules}
 use lib.ListN.{length-set}
-use Rattle.laws.specs.Ring.{next_below}
+use Rattle.laws.proofs.Ring.{next_below}
 use Rattle.ears.proofs.Parts.{triangle_put}
 use Rattle.ears.proofs.cut.put_triangle.Goals as goal
 

@@ -1,7 +1,7 @@
 -- `ears::cut::remark_gap` meets its contract: two marks, one after the other, each of words that are ready. Assumes nothing.
 use native.Mathlib.Omega.{arith}
-use Rattle.laws.specs.Ring.{next_below}
-use Rattle.laws.specs.Ring.{prev_below}
+use Rattle.laws.proofs.Ring.{next_below}
+use Rattle.laws.proofs.Ring.{prev_below}
 use Rattle.ears.proofs.Parts.{marked_ready, gap_marked}
 use Rattle.ears.proofs.cut.remark_gap.Goals as goal
 

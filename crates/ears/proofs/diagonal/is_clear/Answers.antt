@@ -9,7 +9,7 @@ use mir.Val.{Fits}
 use Rattle.mem.specs.Loops.{turn, next, end}
 use Rattle.rules.specs.Diagonal.{stops, is_blocked}
 use Rattle.rules.specs.Ears.{point_at}
-use Rattle.laws.specs.Ring.{next_in, next_below}
+use Rattle.laws.proofs.Ring.{next_in, next_below}
 use Rattle.plane.specs.Points.{points_in}
 use Rattle.ears.proofs.Rings.{first_grid, second_grid}
 use Rattle.ears.proofs.Stops.{side_at, no_side_lem}

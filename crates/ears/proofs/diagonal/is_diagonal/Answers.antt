@@ -2,8 +2,8 @@
 -- Assumes nothing.
 use native.Mathlib.Omega.{arith}
 use Rattle.rules.specs.Diagonal.{is_diagonal}
-use Rattle.laws.specs.Ring.{next_below}
-use Rattle.laws.specs.Ring.{prev_below}
+use Rattle.laws.proofs.Ring.{next_below}
+use Rattle.laws.proofs.Ring.{prev_below}
 use Rattle.ears.proofs.diagonal.is_diagonal.Goals as goal
 
 pub corner-p-requires : goal.corner-p-requires

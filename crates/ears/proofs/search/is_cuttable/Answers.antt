@@ -4,7 +4,7 @@ use native.Mathlib.Omega.{arith}
 use borrow.Author.Rules.{rules}
 use lib.ListN.{length}
 use Rattle.rules.specs.Ears.{is_cuttable}
-use Rattle.laws.specs.Ring.{next_below}
+use Rattle.laws.proofs.Ring.{next_below}
 use Rattle.ears.proofs.search.is_cuttable.Goals as goal
 
 pub offset_bounds-ix-i1 : goal.offset_bounds-ix-i1

@@ -1,7 +1,7 @@
 -- `ears::search::key_from` meets its contract: each arm is the definition at its kind; the places that it reads are in the ring. Assumes nothing.
 use native.Mathlib.Omega.{arith}
 use Rattle.rules.specs.Ears.{key_from, key_end}
-use Rattle.laws.specs.Ring.{next_below}
+use Rattle.laws.proofs.Ring.{next_below}
 use Rattle.ears.proofs.search.key_from.Goals as goal
 
 pub corner-requires : goal.corner-requires

@@ -1,5 +1,5 @@
 -- `mend::lose::carry` meets its contract: a 1 is taken, and nothing else. Assumes nothing.
-use Rattle.laws.specs.MendNumbers.{carried_one, carried_none}
+use Rattle.laws.proofs.MendNumbers.{carried_one, carried_none}
 use mathlib.Core.Path.{sym}
 use borrow.Author.Rules.{rules}
 use Rattle.mend.proofs.lose.carry.Statement.{statement}

@@ -1,6 +1,6 @@
 -- `stl::bytes::get_u32` meets its contract: the four bytes that it reads are those of the definition. Assumes nothing.
 use mathlib.Core.Path.{◌∙◌}
-use Rattle.laws.specs.StlWords.{four_bytes}
+use Rattle.laws.proofs.StlWords.{four_bytes}
 use borrow.Author.Rules.{rules}
 use Rattle.stl.proofs.bytes.get_u32.Statement.{statement}
 use Rattle.stl.proofs.bytes.get_u32.Tie as tie

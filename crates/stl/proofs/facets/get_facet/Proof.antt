@@ -4,7 +4,7 @@ use Prim.Native.Nat.{◌+◌, ◌-◌, ◌*◌}
 use Rattle.mem.specs.Slice.{view, splice}
 use Rattle.mem.specs.Tab.{Filled, filled_none, filled_more, filled_all}
 use Rattle.rules.specs.Stl.{from_little}
-use Rattle.laws.specs.StlWords.{facet_in_lem}
+use Rattle.laws.proofs.StlWords.{facet_in_lem}
 use borrow.Author.Rules.{rules}
 use Rattle.stl.proofs.facets.get_facet.Statement.{statement}
 use Rattle.stl.proofs.facets.get_facet.Tie as tie

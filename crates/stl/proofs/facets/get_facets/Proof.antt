@@ -1,7 +1,7 @@
 -- `stl::facets::get_facets` meets its contract. The loop's invariant is `Reads`: the facets so far are in their words. Assumes nothing.
 use Prim.Native.Nat.{◌-◌}
 use native.Mathlib.Omega.{arith}
-use Rattle.laws.specs.StlWords.{Reads, reads_none, reads_more, reads_all}
+use Rattle.laws.proofs.StlWords.{Reads, reads_none, reads_more, reads_all}
 use borrow.Author.Rules.{rules}
 use Rattle.stl.proofs.facets.get_facets.Statement.{statement}
 use Rattle.stl.proofs.facets.get_facets.Tie as tie

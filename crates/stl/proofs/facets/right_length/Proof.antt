@@ -1,6 +1,6 @@
 -- `stl::facets::right_length` meets its contract: a short file has no count, and of any other the count decides. Assumes nothing.
 use Rattle.rules.specs.Stl.{count_in}
-use Rattle.laws.specs.StlWords.{short_is_wrong, long_is_right}
+use Rattle.laws.proofs.StlWords.{short_is_wrong, long_is_right}
 use borrow.Author.Rules.{rules}
 use Rattle.stl.proofs.facets.right_length.Statement.{statement}
 use Rattle.stl.proofs.facets.right_length.Tie as tie

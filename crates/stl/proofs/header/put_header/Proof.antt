@@ -1,5 +1,5 @@
 -- `stl::header::put_header` meets its contract: the count stands behind the zeros. Assumes nothing.
-use Rattle.laws.specs.StlWords.{header_written}
+use Rattle.laws.proofs.StlWords.{header_written}
 use borrow.Author.Rules.{rules}
 use Rattle.stl.proofs.header.put_header.Statement.{statement}
 use Rattle.stl.proofs.header.put_header.Tie as tie

@@ -1,7 +1,7 @@
 -- `stl::points::pattern` meets its contract: a product with a length is no NaN, so that it has the definition's pattern. Assumes nothing.
 use mathlib.Core.Path.{refl}
 use Rattle.rules.specs.Stl.{coordinate}
-use Rattle.laws.specs.StlFloats.{product_is_no_nan}
+use Rattle.laws.proofs.StlFloats.{product_is_no_nan}
 use borrow.Author.Rules.{rules}
 use Rattle.stl.proofs.points.pattern.Statement.{statement}
 use Rattle.stl.proofs.points.pattern.Tie as tie

@@ -1,5 +1,5 @@
 -- `stl::points::put_facet` meets its contract: a normal, three points and an attribute one behind the other are the bytes of the facet. Assumes nothing.
-use Rattle.laws.specs.StlWords.{facet_written}
+use Rattle.laws.proofs.StlWords.{facet_written}
 use borrow.Author.Rules.{rules}
 use Rattle.stl.proofs.points.put_facet.Statement.{statement}
 use Rattle.stl.proofs.points.put_facet.Tie as tie

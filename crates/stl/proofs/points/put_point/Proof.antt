@@ -1,6 +1,6 @@
 -- `stl::points::put_point` meets its contract: three numbers one behind the other are the bytes of the point. Assumes nothing.
 use Rattle.rules.specs.Stl.{coordinate, point_of}
-use Rattle.laws.specs.StlWords.{point_written}
+use Rattle.laws.proofs.StlWords.{point_written}
 use borrow.Author.Rules.{rules}
 use Rattle.stl.proofs.points.put_point.Statement.{statement}
 use Rattle.stl.proofs.points.put_point.Tie as tie

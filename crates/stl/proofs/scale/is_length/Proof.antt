@@ -1,5 +1,5 @@
 -- `stl::scale::is_length` meets its contract: above zero and below infinity is the definition's test. Assumes nothing.
-use Rattle.laws.specs.StlFloats.{above_is_length, not_above_no_length}
+use Rattle.laws.proofs.StlFloats.{above_is_length, not_above_no_length}
 use Rattle.stl.proofs.scale.is_length.Statement.{statement}
 use Rattle.stl.proofs.scale.is_length.Tie as tie
 

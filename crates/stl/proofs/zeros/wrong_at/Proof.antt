@@ -1,6 +1,6 @@
 -- `stl::zeros::wrong_at` meets its contract: where zero is due the byte decides, and elsewhere none is wrong. Assumes nothing.
 use mathlib.Core.Path.{sym, ◌∙◌}
-use Rattle.laws.specs.StlWords.{wrong_due, wrong_free}
+use Rattle.laws.proofs.StlWords.{wrong_due, wrong_free}
 use borrow.Author.Rules.{rules}
 use Rattle.stl.proofs.zeros.wrong_at.Statement.{statement}
 use Rattle.stl.proofs.zeros.wrong_at.Tie as tie

@@ -1,5 +1,5 @@
 -- `stl::zeros::zero_due` meets its contract: each way out is one part of a file. Assumes nothing.
-use Rattle.laws.specs.StlWords.{due_header, due_count, due_normal, due_attribute}
+use Rattle.laws.proofs.StlWords.{due_header, due_count, due_normal, due_attribute}
 use Rattle.stl.proofs.zeros.zero_due.Statement.{statement}
 use Rattle.stl.proofs.zeros.zero_due.Tie as tie
 

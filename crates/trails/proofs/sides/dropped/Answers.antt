@@ -1,7 +1,7 @@
 -- `trails::sides::dropped` meets its contract: each arm is the definition with its test known. Assumes nothing.
 use mathlib.Core.Path.{sym}
 use borrow.Author.Rules.{rules}
-use Rattle.laws.specs.Removal.{dropped_low, dropped_high}
+use Rattle.laws.proofs.Removal.{dropped_low, dropped_high}
 use Rattle.trails.proofs.sides.dropped.Goals as goal
 
 pub returns-then-rem-v : goal.returns-then-rem-v
