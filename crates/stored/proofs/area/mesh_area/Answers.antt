@@ -79,7 +79,7 @@ overflow_add-sum c =
     let there : (view ((c.args.polygons.now)) ((c.loop-i.i * (c.args.nvp))) ((c.loop-i.i * (c.args.nvp)) + c.count_corners-c.result - (c.loop-i.i * (c.args.nvp)))) ≡ (up_to_none (view ((c.args.polygons.now)) ((c.loop-i.i * (c.args.nvp))) ((c.args.nvp)))) = corners_there ((c.args.polygons.now)) ((c.loop-i.i * (c.args.nvp))) ((c.args.nvp)) ((c.loop-i.i * (c.args.nvp)) + (c.args.nvp) - (c.loop-i.i * (c.args.nvp))) (c.count_corners-c.result) (omega arith) (row_fits) c.count_corners-c.ensures
     ((c.loop-i.i * (c.args.nvp)) + c.count_corners-c.result - (c.loop-i.i * (c.args.nvp))) (omega arith) in
     let added : c.polygon_area-sum.result ≡ area (places_of c.args.vertices.now ((up_to_none (view ((c.args.polygons.now)) ((c.loop-i.i * (c.args.nvp))) ((c.args.nvp)))))) = c.polygon_area-sum.ensures ∙ ap (λ (l : List ℕ). area (places_of c.args.vertices.now l)) (there) in
-    add_needs c.loop-i.sum-bits c.pre c.loop-i.invariant (inside) (bits c) (added)
+    add_needs c.loop-i.sum-bits c.requires c.loop-i.invariant (inside) (bits c) (added)
 
 pub loop-i-preserved : goal.loop-i-preserved
 loop-i-preserved c =
@@ -88,7 +88,7 @@ loop-i-preserved c =
     let there : (view ((c.args.polygons.now)) ((c.loop-i.i * (c.args.nvp))) ((c.loop-i.i * (c.args.nvp)) + c.count_corners-c.result - (c.loop-i.i * (c.args.nvp)))) ≡ (up_to_none (view ((c.args.polygons.now)) ((c.loop-i.i * (c.args.nvp))) ((c.args.nvp)))) = corners_there ((c.args.polygons.now)) ((c.loop-i.i * (c.args.nvp))) ((c.args.nvp)) ((c.loop-i.i * (c.args.nvp)) + (c.args.nvp) - (c.loop-i.i * (c.args.nvp))) (c.count_corners-c.result) (omega arith) (row_fits) c.count_corners-c.ensures
     ((c.loop-i.i * (c.args.nvp)) + c.count_corners-c.result - (c.loop-i.i * (c.args.nvp))) (omega arith) in
     let added : c.polygon_area-sum.result ≡ area (places_of c.args.vertices.now ((up_to_none (view ((c.args.polygons.now)) ((c.loop-i.i * (c.args.nvp))) ((c.args.nvp)))))) = c.polygon_area-sum.ensures ∙ ap (λ (l : List ℕ). area (places_of c.args.vertices.now l)) (there) in
-    summed_more c.loop-i.sum-bits c.pre c.loop-i.invariant (inside) (bits c) (added)
+    summed_more c.loop-i.sum-bits c.requires c.loop-i.invariant (inside) (bits c) (added)
 
 pub returns : goal.returns
 returns c = summed_all c.loop-i.invariant (omega (arith, c.loop-i-test.false))
