@@ -1,15 +1,12 @@
 -- A ring of points: the point at a place of it, and that index words stay good as they are marked, cut and counted up. Assumes nothing.
 use mathlib.Core.Path.{◌≡◌, ◌∙◌}
 use mathlib.Core.List.{List, map}
-use mathlib.Core.Logic.{⊎_elim}
 use Prim.Native.Nat.{ℕ, ◌+◌, ◌*◌, ◌/◌, ◌^◌, ◌≤◌, ◌<◌}
 use native.Mathlib.Omega.{arith}
-use borrow.Author.Tests.{le-leb, lt-leb}
 use lib.ListN.{length, get_or, length-map, length-set}
-use Rattle.mem.specs.Cases.{lt_or_le}
 use Rattle.mem.specs.Tab.{length_tab, get_or_tab}
 use Rattle.rules.specs.declared.Point.{Point}
-use Rattle.rules.specs.Lists.{next, prev, without}
+use Rattle.rules.specs.Lists.{next, without}
 use Rattle.rules.specs.Plane.{origin, InGrid}
 use Rattle.rules.specs.Ears.{index_of, indices, point_at, remark, remark_gap, cut_ear, mark_all}
 use Rattle.laws.specs.Lists.{All}

@@ -1,6 +1,6 @@
 -- Request 11, binary STL: the file as a list of bytes, a function of the mesh and its scale; and what is read from a list of bytes. Bytes and facets count
 -- from 0. Definitions; at the end what is proved of them, in crate `laws`.
-use Rattle.std.specs.Prelude.{◌≡◌, Bool, true, false, not, ◌&&◌, ◌||◌, cond, List, [], ◌∷◌, ◌++◌, ℕ, ◌+◌, ◌-◌, ◌*◌, ◌/◌, ◌%◌, ◌≤◌, ◌<◌, pos, leb, ltb, eqb, length, get_or, replicate, Float}
+use Rattle.std.specs.Prelude.{◌≡◌, Bool, false, not, ◌&&◌, ◌||◌, cond, List, [], ◌∷◌, ◌++◌, ℕ, ◌+◌, ◌-◌, ◌*◌, ◌/◌, ◌%◌, ◌≤◌, ◌<◌, pos, leb, ltb, eqb, length, get_or, replicate, Float}
 use Rattle.std.specs.Float.Ieee as Ieee
 use Rattle.std.specs.Float.{nan, inf, fin, binary32}
 use Rattle.mem.specs.Slice.{view}

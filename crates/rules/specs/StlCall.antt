@@ -1,6 +1,6 @@
 -- Request 11, the calls: what writing and reading a binary STL answer, refusals 70 to 73 in their order, and every lent word at exit. Definitions; at the end
 -- what is proved of them, in crate `laws`.
-use Rattle.std.specs.Prelude.{◌≡◌, Bool, true, false, cond, ◌↔◌, List, [], ◌∷◌, ℕ, ◌*◌, ◌<◌, leb, length}
+use Rattle.std.specs.Prelude.{◌≡◌, true, cond, ◌↔◌, List, [], ◌∷◌, ℕ, ◌*◌, ◌<◌, leb, length}
 use Rattle.mem.specs.Slice.{splice}
 use Rattle.mem.specs.Packed.{packed}
 use Rattle.rules.specs.Handed.{Handed, mesh_in, soundness, fault_number, fault_second}

@@ -30,8 +30,7 @@ remark_gap-requires c =
     lent_part (λ l. without l (c.next-k.result) ++ (0 ∷ [])) (c.args.w.now) c.close_gap.new.ix (c.args.a) _ _ e
     c.close_gap.ensures c.close_gap.auto.ix c.requires.0.room in
     let after-below : c.if-k-n.i1 < c.args.m - 1 = elim c.if-k-n.branch [ then-k-n w ↦ omega arith | else-k-n w ↦ omega arith ] in
-    let h = after-below in
-    (
+    let h = after-below in (
       gap_ready _ _ _ _ c.requires.0 c.requires.1 c.next-k.ensures (closed),
       rw c.prev.ensures (prev_below _ _ h),
       h,

@@ -10,12 +10,11 @@ put_triangle-requires c =
     (ear_place _ _ _ 0 c.requires.0 c.ear_in-ear.ensures c.if-ear.true, c.requires.2, c.requires.3)
 
 pub cut_ear-requires : goal.cut_ear-requires
-cut_ear-requires c =
-    (
-      far_ready _ _ _ _ _ c.requires.0 c.requires.2 c.put_triangle.ensures,
-      ear_place _ _ _ 0 c.requires.0 c.ear_in-ear.ensures c.if-ear.true,
-      c.requires.1,
-    )
+cut_ear-requires c = (
+  far_ready _ _ _ _ _ c.requires.0 c.requires.2 c.put_triangle.ensures,
+  ear_place _ _ _ 0 c.requires.0 c.ear_in-ear.ensures c.if-ear.true,
+  c.requires.1,
+)
 
 pub returns-then-ear : goal.returns-then-ear
 returns-then-ear c =

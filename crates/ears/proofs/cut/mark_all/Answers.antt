@@ -1,4 +1,3 @@
-use Prim.Native.Nat.{◌-◌}
 use native.Mathlib.Omega.{arith}
 use Rattle.laws.proofs.Ring.{next_below}
 use Rattle.ears.proofs.Parts.{mark_none, mark_more, mark_all_lem}

@@ -2,7 +2,7 @@
 -- that are left are wiped. Assumes nothing.
 use mathlib.Core.Path.{◌≡◌, ap, ◌∙◌}
 use mathlib.Core.List.{◌++◌}
-use Prim.Native.Nat.{◌+◌, ◌-◌, ◌*◌}
+use Prim.Native.Nat.{◌-◌, ◌*◌}
 use native.Mathlib.Omega.{arith}
 use lib.ListN.{length, take, drop}
 use Rattle.mem.specs.Slice.{splice, length_splice, lent_sized}
@@ -24,8 +24,7 @@ cut_all-t-requires c =
     ≡ splice (c.args.part.now) (c.args.n * 2) (indices (c.args.n)) = let e : c.args.n * 3 - c.args.n * 2 ≡ c.args.n = omega arith in
     lent_sized indices (c.args.part.now) c.count_up.new.ix (c.args.n * 2) (c.args.n) _ e
     c.count_up.ensures c.count_up.auto.ix (omega (arith, c.requires.some, c.requires.size)) in
-    let marked-long : length c.mark_all.new.w ≡ length (c.args.part.now) = c.mark_all.auto.w ∙ ap length (counted) ∙ length_splice (c.args.part.now) (c.args.n * 2) (indices (c.args.n)) in
-    (
+    let marked-long : length c.mark_all.new.w ≡ length (c.args.part.now) = c.mark_all.auto.w ∙ ap length (counted) ∙ length_splice (c.args.part.now) (c.args.n * 2) (indices (c.args.n)) in (
       marked_ready _ _ c.requires (counted) c.mark_all.ensures,
       c.requires.some,
       omega (arith, marked-long, c.requires.some, c.requires.size),

@@ -9,8 +9,7 @@ point_at-requires c =
     (c.requires.0.grid, rw c.index_of-v.ensures (corner_room c.requires.0 c.args.k c.requires.1))
 
 pub returns : goal.returns
-returns c =
-    (
-      c.point_at.ensures.0 ∙ ap (point_of c.args.pts.now) c.index_of-v.ensures ∙ sym (corner_is c.requires.0 c.args.k c.requires.1),
-      c.point_at.ensures.1,
-    )
+returns c = (
+  c.point_at.ensures.0 ∙ ap (point_of c.args.pts.now) c.index_of-v.ensures ∙ sym (corner_is c.requires.0 c.args.k c.requires.1),
+  c.point_at.ensures.1,
+)

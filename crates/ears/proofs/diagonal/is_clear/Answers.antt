@@ -1,6 +1,6 @@
 use mathlib.Core.Path.{◌≡◌, refl, sym, ap, ◌∙◌}
-use mathlib.Core.Bool.{Bool, false, ◌||◌}
-use Prim.Native.Nat.{◌+◌, ◌-◌, ◌<◌}
+use mathlib.Core.Bool.{Bool, ◌||◌}
+use Prim.Native.Nat.{◌+◌, ◌<◌}
 use native.Mathlib.Omega.{arith}
 use borrow.Author.Rules.{rules}
 use lib.ListN.{length}
@@ -30,14 +30,13 @@ pub corner-d-requires : goal.corner-d-requires
 corner-d-requires c = (c.requires.0, rw c.next-l.ensures (next_below _ _ (omega (arith, c.if-n-k.false))))
 
 pub does_stop-requires : goal.does_stop-requires
-does_stop-requires c =
-    (
-      first_grid c.requires.0 c.requires.1,
-      second_grid c.requires.0 c.requires.1,
-      c.loop-k.invariant.2,
-      c.corner-d.ensures.1,
-      c.bounds_of-t.ensures,
-    )
+does_stop-requires c = (
+  first_grid c.requires.0 c.requires.1,
+  second_grid c.requires.0 c.requires.1,
+  c.loop-k.invariant.2,
+  c.corner-d.ensures.1,
+  c.bounds_of-t.ensures,
+)
 
 pub overflow_add-k : goal.overflow_add-k
 overflow_add-k c =
@@ -51,8 +50,7 @@ loop-k-preserved c =
     let found-is : let s = c.args in
     c.does_stop.result ≡ stops s.kind (point_at (points_in s.pts.now) s.ix.now) (length s.ix.now) s.i s.j c.loop-k.k = c.does_stop.ensures
     ∙ side_at c.args.kind c.loop-k.k c.requires.1 c.next-l.ensures
-    (c.loop-k.invariant.1 (in-ring)) c.corner-d.ensures.0 in
-    (
+    (c.loop-k.invariant.1 (in-ring)) c.corner-d.ensures.0 in (
       next c.loop-k.invariant.0 (in-ring) (λ r. ap (λ (t : Bool). t || r) (sym (found-is) ∙ c.if-does_stop.false)),
       λ (h : c.loop-k.k + 1 < length c.args.ix.now).
           c.corner-d.ensures.0 ∙ ap (point_at (points_in c.args.pts.now) c.args.ix.now) (c.next-l.ensures ∙ next_in _ _ h),

@@ -12,7 +12,7 @@ use Rattle.plane.specs.Points.{points_in}
 use Rattle.ears.proofs.diagonal.is_clear.Given as goal
 
 abbrev pub invariant-loop-k : goal.invariant-loop-k
-invariant-loop-k l =     let p = point_at (points_in l.pts) l.ix in
+invariant-loop-k l = let p = point_at (points_in l.pts) l.ix in
     Left false ◌||◌ (stops l.kind p (length l.ix) l.i l.j) not (not (is_blocked l.kind p (length l.ix) l.i l.j)) (length l.ix) l.k × (l.k < length l.ix → l.c ≡ p l.k) × InGrid l.c
 
 abbrev pub decreases-loop-k : goal.decreases-loop-k

@@ -1,4 +1,4 @@
-use Rattle.std.proofs.Common.{◌≡◌, ℕ, ◌+◌, ◌-◌, List, sym, arith, w32, w64, to_z, of_z}
+use Rattle.std.proofs.Common.{◌≡◌, ℕ, ◌+◌, List, sym, arith, w32, w64, to_z, of_z}
 use Rattle.ints.specs.Machine.{Reads, reads_of}
 use Rattle.rules.specs.Plane.{D}
 use Rattle.plane.specs.Points.{point_of, GridWords}

@@ -1,4 +1,3 @@
-use Prim.Native.Nat.{◌-◌}
 use mathlib.Core.Path.{refl}
 use Rattle.mem.specs.Tab.{filled_none, filled_more}
 use Rattle.records.specs.Polygons.{loaded_made}

@@ -1,5 +1,4 @@
 use lib.ListN.{length-set}
-use Prim.Native.Nat.{◌-◌}
 use mathlib.Core.Path.{refl}
 use native.Mathlib.Omega.{arith}
 use Rattle.mem.specs.Tab.{filled_none, filled_more}

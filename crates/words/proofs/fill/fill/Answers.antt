@@ -1,5 +1,4 @@
 use mathlib.Core.Path.{refl, ap, ◌∙◌}
-use Prim.Native.Nat.{◌-◌}
 use Rattle.mem.specs.Slice.{splice}
 use Rattle.mem.specs.Tab.{filled_none, filled_more, filled_all, tab_const}
 use Rattle.words.proofs.fill.fill.Goals as goal

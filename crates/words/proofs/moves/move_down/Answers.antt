@@ -1,5 +1,4 @@
 use mathlib.Core.Path.{ap, ◌∙◌}
-use Prim.Native.Nat.{◌-◌}
 use native.Mathlib.Omega.{arith}
 use Rattle.mem.specs.Slice.{splice}
 use Rattle.mem.specs.Tab.{filled_none, filled_more, filled_all, filled_above, tab_view}
