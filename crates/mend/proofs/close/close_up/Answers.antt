@@ -1,6 +1,5 @@
 use native.Mathlib.Omega.{arith}
 use Prim.Native.Nat.{◌+◌, ◌≤◌}
-use Prim.Native.Nat.{◌-◌}
 use lib.ListN.{length}
 use Rattle.mend.proofs.Closing.{closing_begin, closing_both, closing_more, closing_end}
 use borrow.Author.Rules.{rules}

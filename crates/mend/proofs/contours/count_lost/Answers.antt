@@ -1,5 +1,4 @@
 use native.Mathlib.Omega.{arith}
-use Prim.Native.Nat.{◌-◌}
 use Rattle.mend.proofs.Counting.{counting_begin, counting_ready, counting_more, counting_end}
 use Rattle.mend.proofs.contours.count_lost.Goals as goal
 

@@ -1,6 +1,5 @@
 use native.Mathlib.Omega.{arith}
 use Rattle.mend.proofs.MendingAll.{mending_small}
-use Prim.Native.Nat.{◌-◌}
 use Rattle.mend.proofs.MendingAll.{mending_begin, mending_ready, mending_more, mending_end}
 use Rattle.mend.proofs.contours.mend_all.Goals as goal
 

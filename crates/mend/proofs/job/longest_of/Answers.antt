@@ -1,4 +1,3 @@
-use Prim.Native.Nat.{◌-◌}
 use Rattle.mend.proofs.Longest.{longest_begin, longest_more, longest_end}
 use Rattle.mend.proofs.job.longest_of.Goals as goal
 

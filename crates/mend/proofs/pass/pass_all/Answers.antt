@@ -1,6 +1,5 @@
 use lib.ListN.{length-set}
 use mathlib.Core.Path.{◌∙◌}
-use Prim.Native.Nat.{◌-◌}
 use Rattle.mend.proofs.Going.{going_begin, going_ready, going_more, going_end}
 use Rattle.mend.proofs.pass.pass_all.Goals as goal
 
