@@ -14,7 +14,8 @@ use Rattle.mem.specs.Slice.{splice, splice_eq}
 use Rattle.rules.specs.Job.{job_stride, sum_over}
 use Rattle.rules.specs.Mend.{Mending}
 use Rattle.rules.specs.MendCall.{MendLent, mended_job, kept_lengths, kept_count, kept_words}
-use Rattle.rules.specs.MendCall.{lost_numbers, mended_numbers, vertices_in, are_whole, lengths_agree, longest, vertices_most, is_short_scratch, is_list_full, mend_outcome}
+use Rattle.rules.specs.MendCall.{lost_numbers, mended_numbers, vertices_in, are_whole, lengths_agree, longest, vertices_most}
+use Rattle.rules.specs.MendCall.{is_short_scratch, is_list_full, mend_outcome}
 use Rattle.rules.specs.MendCall.{mend_reply_of, scratch_wiped, mend_exit_of, mend_exit, one_contour}
 use Rattle.rules.specs.declared.MendReply.{MendReply}
 use Rattle.rules.specs.declared.MendReply.TheVariants.{Mended, NotWhole, LengthsDisagree, ShortScratch, ListFull}
@@ -212,7 +213,8 @@ module _ (ns ls ws : List ℕ) where
       or_true true = refl
       or_true false = refl
 
-  pub one_short : length ns ≤ length ns / job_stride * job_stride → vertices_most < length ns / job_stride → OneReplies ShortScratch (one_contour ns ls ws) ns ls ws
+  pub one_short : length ns ≤ length ns / job_stride * job_stride → vertices_most < length ns / job_stride
+      → OneReplies ShortScratch (one_contour ns ls ws) ns ls ws
   unfolding one_contour
   one_short h k = one_of (one_contour ns ls ws) (one_contour ns ls ws) (job_short (vertices_in ns ∷ []) ns ls ws (whole_now ns h) one_agrees (one_many k))
 

@@ -12,8 +12,8 @@ use Rattle.mend.specs.Ending.{OffReady, Off}
 use Rattle.mend.proofs.EndsMeeting.{held_both, held_small}
 use Rattle.mend.proofs.Walking.{listed_lost}
 
-pub off_lose : {t : Bool} {ns ls st : List ℕ} {kept gone p q : ℕ} {at : Span} (r : OffReady t ns ls st kept gone at) → p ≡ get_or st kept 0 → q ≡ get_or st gone 0
-    → LoseReady t ns ls at.lost p q
+pub off_lose : {t : Bool} {ns ls st : List ℕ} {kept gone p q : ℕ} {at : Span} (r : OffReady t ns ls st kept gone at)
+    → p ≡ get_or st kept 0 → q ≡ get_or st gone 0 → LoseReady t ns ls at.lost p q
 off_lose {kept = kept} {gone} r e f = record {
   both = held_both r.held kept gone r.kept_in r.gone_in e f;
   small = held_small r.held gone r.gone_in f;

@@ -1,0 +1,12 @@
+use Rattle.mend.proofs.Longest.{longest_begin, longest_more, longest_end}
+use Rattle.mend.proofs.job.longest_of.Goals as goal
+
+pub loop-c-init : goal.loop-c-init
+loop-c-init c = longest_begin c.args.lengths.now
+
+pub loop-c-preserved : goal.loop-c-preserved
+loop-c-preserved c =
+    longest_more c.loop-c.invariant c.loop-c-test.true c.link_at.ensures c.longer_of-most.ensures
+
+pub returns : goal.returns
+returns c = longest_end c.loop-c.invariant c.loop-c-test.false
