@@ -17,12 +17,10 @@ use Rattle.rules.specs.Mesh.{Polygon, no_polygon, polygon_at, place_of, side_sta
 use Rattle.rules.specs.Links.{none}
 use Rattle.rules.specs.Portals.{portal_of, portal_at, portals_in, portals}
 use Rattle.rules.specs.declared.Vertex.{Vertex}
-use Rattle.laws.specs.Lists.{All}
 use Rattle.laws.proofs.Lists.{all_at}
 use Rattle.laws.specs.Links.{Shaped}
-use Rattle.laws.specs.Merge.{Below}
 use Rattle.records.specs.Layout.{vertex_size, vertex_in, vertices_at, polygon_size, most_corners, polygon_in, polygons_at, link_size}
-use Rattle.records.specs.Values.{corners_of, Loaded, On}
+use Rattle.records.specs.Values.{corners_of, Loaded}
 use Rattle.records.specs.Polygons.{loaded_corners, length_corners, length_polygons}
 use Rattle.records.specs.declared.polygon.Poly.{Poly}
 use Rattle.links.specs.Ready.{link_records, links_at, LinksInHand, PortalReady, portals_at}

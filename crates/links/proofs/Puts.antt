@@ -11,7 +11,7 @@ use Rattle.mem.specs.Slice.{view, splice, splice_view, view_after}
 use Rattle.mem.specs.Shelves.{chained_put, shelved}
 use Rattle.mem.specs.Loops.{block_fits}
 use Rattle.mem.specs.Cases.{eq_or_ne}
-use Rattle.mem.specs.Chain.{firsts, nexts}
+use Rattle.mem.specs.Chain.{nexts}
 use Rattle.rules.specs.Links.{no_edge, joined_to, join_at}
 use Rattle.rules.specs.declared.Edge.{Edge}
 use Rattle.rules.specs.declared.Found.TheVariants.{At}

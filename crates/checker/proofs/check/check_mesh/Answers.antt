@@ -1,0 +1,21 @@
+-- `checker::check::check_mesh` meets its contract: a sound mesh is consistent, and goes on to 43 and 44; a fault is the verdict. Assumes nothing.
+use mathlib.Core.Path.{sym, ◌∙◌}
+use Rattle.laws.proofs.Handed.{sound_exactly}
+use Rattle.laws.proofs.Checker.{sound_passes}
+use Rattle.checker.specs.Asked.{claim_in}
+use Rattle.checker.proofs.Verdicts.{sound_last, unsound}
+use Rattle.checker.proofs.check.check_mesh.Goals as goal
+
+pub sound_verdict-requires : goal.sound_verdict-requires
+sound_verdict-requires c =
+    (sound_exactly ((let a = c.args in claim_in a.nvp a.w a.h a.border a.claim a.vertices.now a.polygons.now a.links.now)).mesh).0 (sym c.soundness_of-sound.ensures ∙ c.in-Sound.is)
+
+pub returns-in-Sound : goal.returns-in-Sound
+returns-in-Sound c =
+    let a = c.args in
+    sound_last a.nvp a.w a.h a.border a.claim a.vertices.now a.polygons.now a.links.now c.ranges.claim c.sound_verdict.ensures
+    ∙ sym (sound_passes ((let a = c.args in claim_in a.nvp a.w a.h a.border a.claim a.vertices.now a.polygons.now a.links.now)) (sym c.soundness_of-sound.ensures ∙ c.in-Sound.is))
+
+pub returns-in-Broken : goal.returns-in-Broken
+returns-in-Broken c =
+    unsound ((let a = c.args in claim_in a.nvp a.w a.h a.border a.claim a.vertices.now a.polygons.now a.links.now)) c.in-Broken.fault (sym c.soundness_of-sound.ensures ∙ c.in-Broken.is)

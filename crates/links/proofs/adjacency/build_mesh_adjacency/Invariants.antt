@@ -1,0 +1,13 @@
+-- `links::adjacency::build_mesh_adjacency` meets its contract: the links stored so far are R6's for the records so far. Assumes nothing.
+use mathlib.Core.Path.{◌≡◌}
+use Prim.Native.Nat.{◌-◌}
+use lib.ListN.{length}
+use Rattle.links.proofs.Stores.{Linkable, Linking}
+use Rattle.links.proofs.adjacency.build_mesh_adjacency.Given as goal
+
+abbrev pub invariant-loop-k : goal.invariant-loop-k
+invariant-loop-k l = Linkable l.initial.work l.o l.np l.t l.ne l.lo × Linking l.initial.work l.o l.np l.t l.ne l.lo l.work l.k
+    × (length l.work ≡ length l.initial.work)
+
+abbrev pub decreases-loop-k : goal.decreases-loop-k
+decreases-loop-k l = l.ne - l.k

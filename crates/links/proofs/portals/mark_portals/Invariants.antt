@@ -1,0 +1,10 @@
+-- `links::portals::mark_portals` meets its contract: the links of the polygons so far are R7's, those of the others are as they were. Assumes nothing.
+use Prim.Native.Nat.{◌-◌}
+use Rattle.links.proofs.Marks.{Marking}
+use Rattle.links.proofs.portals.mark_portals.Given as goal
+
+abbrev pub invariant-loop-i : goal.invariant-loop-i
+invariant-loop-i l = Marking l.initial.work l.vo l.nv l.o l.np l.lo l.w l.h l.work l.i
+
+abbrev pub decreases-loop-i : goal.decreases-loop-i
+decreases-loop-i l = l.np - l.i

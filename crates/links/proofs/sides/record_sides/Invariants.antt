@@ -1,0 +1,17 @@
+-- `links::sides::record_sides` meets its contract: the polygons that are left, from the records so far, give all; there is room for as many records as corners. Assumes nothing.
+use Prim.Native.Nat.{◌+◌, ◌-◌}
+use lib.ListN.{drop}
+use Rattle.mem.specs.Loops.{each}
+use Rattle.records.specs.Layout.{edges_at, polygons_at}
+use Rattle.links.specs.Ready.{corners_in}
+use Rattle.links.proofs.Rounds.{Going}
+use Rattle.links.proofs.Rounds.{record_all}
+use Rattle.links.proofs.sides.record_sides.Given as goal
+
+abbrev pub invariant-loop-i : goal.invariant-loop-i
+invariant-loop-i l = Going l.initial.work l.t l.nv l.ne (l.ne + corners_in (polygons_at l.initial.work l.o l.np))
+    (record_all (polygons_at l.initial.work l.o l.np)) (each (record_all (polygons_at l.initial.work l.o l.np)) 0 l.np
+    (edges_at l.initial.work l.t.edges l.ne)) l.np l.work l.n l.i (corners_in (drop l.i (polygons_at l.initial.work l.o l.np)))
+
+abbrev pub decreases-loop-i : goal.decreases-loop-i
+decreases-loop-i l = l.np - l.i
