@@ -1,0 +1,94 @@
+-- `polymesh::mesh::into_polygon_mesh` meets its contract, on any numbers: a check refuses and nothing is written, or the job is built in the words lent for it. Assumes nothing.
+use Rattle.polymesh.proofs.Meshes.{prefix_back}
+use Prim.Native.Nat.{ℕ}
+use lib.Seq.{length-take-le}
+use mathlib.Core.Path.{◌≡◌, sym, ◌∙◌}
+use Rattle.rules.specs.Checks.{lengths_of, check, passed}
+use Rattle.checks.specs.Answers.{job_of, is_passed, is_refusal}
+use Rattle.checks.specs.Sums.{v_is, t_is}
+use Rattle.outputs.specs.Ready.{buffers}
+use Rattle.polymesh.proofs.Meshes.{refused_all, few_contours, few_vertices, work_fits, admitted, build_ready, built_all}
+use Rattle.polymesh.proofs.mesh.into_polygon_mesh.Goals as goal
+
+pub returns-in-Refused : goal.returns-in-Refused
+unfolding lengths_of
+returns-in-Refused c =
+    let both = refused_all c.args.header (job_of c.args.nvp c.args.w c.args.h c.args.border _ _ _ _) _
+    (is_refusal _ _ (sym (c.check.ensures c.args.w c.args.h c.args.border) ∙ c.in-Refused.is)) in
+    record { answer = both.0; words = both.1.0; accepted = both.1.1 }
+
+pub count_v-v-requires : goal.count_v-v-requires
+count_v-v-requires c = few_contours (job_of c.args.nvp 0 0 0 _ _ _ _) _ (is_passed _ (sym (c.check.ensures 0 0 0) ∙ c.in-Passed.is))
+
+pub count_t-t-requires : goal.count_t-t-requires
+count_t-t-requires c = few_contours (job_of c.args.nvp 0 0 0 _ _ _ _) _ (is_passed _ (sym (c.check.ensures 0 0 0) ∙ c.in-Passed.is))
+
+pub work_words-n-requires : goal.work_words-n-requires
+work_words-n-requires c =
+    let j = job_of c.args.nvp 0 0 0 _ _ _ _ in
+    few_vertices j _ (is_passed _ (sym (c.check.ensures 0 0 0) ∙ c.in-Passed.is)) (c.count_v-v.ensures ∙ sym (v_is j))
+
+pub slice_bounds-build-end : goal.slice_bounds-build-end
+unfolding lengths_of
+slice_bounds-build-end c =
+    let p = is_passed _ (sym (c.check.ensures 0 0 0) ∙ c.in-Passed.is) in
+    work_fits ((job_of c.args.nvp 0 0 0 c.args.lengths.now c.args.regions.now c.args.codes.now c.args.numbers.now)) ((buffers c.args.vertices.now c.args.polygons.now c.args.neighbours.now c.args.polyregions.now c.args.polycodes.now c.args.flags.now c.args.work.now)) p (c.count_v-v.ensures ∙ sym (v_is ((job_of c.args.nvp 0 0 0 c.args.lengths.now c.args.regions.now c.args.codes.now c.args.numbers.now)))) c.work_words-n.ensures
+
+pub slice_bounds-build-end-in-Passed : goal.slice_bounds-build-end-in-Passed
+unfolding lengths_of
+slice_bounds-build-end-in-Passed c =
+    let p = is_passed _ (sym (c.check.ensures 0 0 0) ∙ c.in-Passed.is) in
+    sym (length-take-le _ c.args.work.now (work_fits ((job_of c.args.nvp 0 0 0 c.args.lengths.now c.args.regions.now c.args.codes.now c.args.numbers.now)) ((buffers c.args.vertices.now c.args.polygons.now c.args.neighbours.now c.args.polyregions.now c.args.polycodes.now c.args.flags.now c.args.work.now)) p (c.count_v-v.ensures ∙ sym (v_is ((job_of c.args.nvp 0 0 0 c.args.lengths.now c.args.regions.now c.args.codes.now c.args.numbers.now)))) c.work_words-n.ensures))
+
+pub build-reply-requires : goal.build-reply-requires
+unfolding lengths_of
+build-reply-requires c =
+    let a = c.count_v-v.ensures in
+    let t = c.count_t-t.ensures in
+    let p : (x y z : ℕ) → check ((job_of c.args.nvp x y z c.args.lengths.now c.args.regions.now c.args.codes.now c.args.numbers.now)) (lengths_of ((buffers c.args.vertices.now c.args.polygons.now c.args.neighbours.now c.args.polyregions.now c.args.polycodes.now c.args.flags.now c.args.work.now))) ≡ passed = λ x y z. is_passed (check ((job_of c.args.nvp x y z c.args.lengths.now c.args.regions.now c.args.codes.now c.args.numbers.now)) (lengths_of ((buffers c.args.vertices.now c.args.polygons.now c.args.neighbours.now c.args.polyregions.now c.args.polycodes.now c.args.flags.now c.args.work.now)))) (sym (c.check.ensures x y z) ∙ c.in-Passed.is) in
+    let n = c.work_words-n.ensures in
+    let l = length-take-le _ c.args.work.now (work_fits ((job_of c.args.nvp 0 0 0 c.args.lengths.now c.args.regions.now c.args.codes.now c.args.numbers.now)) ((buffers c.args.vertices.now c.args.polygons.now c.args.neighbours.now c.args.polyregions.now c.args.polycodes.now c.args.flags.now c.args.work.now)) (p 0 0 0) (a ∙ sym (v_is ((job_of c.args.nvp 0 0 0 c.args.lengths.now c.args.regions.now c.args.codes.now c.args.numbers.now)))) n) ∙ n in
+    let j = (job_of c.args.nvp c.args.w c.args.h c.args.border c.args.lengths.now c.args.regions.now c.args.codes.now c.args.numbers.now) in (
+      λ x y z. admitted ((job_of c.args.nvp x y z c.args.lengths.now c.args.regions.now c.args.codes.now c.args.numbers.now)) (lengths_of ((buffers c.args.vertices.now c.args.polygons.now c.args.neighbours.now c.args.polyregions.now c.args.polycodes.now c.args.flags.now c.args.work.now))) (p x y z) (a ∙ sym (v_is ((job_of c.args.nvp x y z c.args.lengths.now c.args.regions.now c.args.codes.now c.args.numbers.now)))) (t ∙ sym (t_is ((job_of c.args.nvp x y z c.args.lengths.now c.args.regions.now c.args.codes.now c.args.numbers.now)))),
+      build_ready j ((buffers c.args.vertices.now c.args.polygons.now c.args.neighbours.now c.args.polyregions.now c.args.polycodes.now c.args.flags.now c.args.work.now)) (p c.args.w c.args.h c.args.border) (a ∙ sym (v_is j)) (t ∙ sym (t_is j)) _ l (record {
+        nvp = c.ranges.nvp.fits;
+        w = c.ranges.w.fits;
+        h = c.ranges.h.fits;
+        border = c.ranges.border.fits;
+        lengths = λ k. (c.shared_slice_known-1.given k).fits;
+        regions = λ k. (c.shared_slice_known-2-1.given k).fits;
+        codes = λ k. (c.shared_slice_known-3-1.given k).fits;
+        numbers = λ k. (c.shared_slice_known-4-1.given k).fits;
+      }),
+    )
+
+pub shape_of-vertices-in-Passed : goal.shape_of-vertices-in-Passed
+shape_of-vertices-in-Passed c = c.build-reply.auto.vertices
+
+pub shape_of-polygons-in-Passed : goal.shape_of-polygons-in-Passed
+shape_of-polygons-in-Passed c = c.build-reply.auto.polygons
+
+pub shape_of-neighbours-in-Passed : goal.shape_of-neighbours-in-Passed
+shape_of-neighbours-in-Passed c = c.build-reply.auto.neighbours
+
+pub shape_of-polyregions-in-Passed : goal.shape_of-polyregions-in-Passed
+shape_of-polyregions-in-Passed c = c.build-reply.auto.polyregions
+
+pub shape_of-polycodes-in-Passed : goal.shape_of-polycodes-in-Passed
+shape_of-polycodes-in-Passed c = c.build-reply.auto.polycodes
+
+pub shape_of-flags-in-Passed : goal.shape_of-flags-in-Passed
+shape_of-flags-in-Passed c = c.build-reply.auto.flags
+
+pub returns-in-Passed : goal.returns-in-Passed
+unfolding lengths_of
+returns-in-Passed c =
+    let j = (job_of c.args.nvp c.args.w c.args.h c.args.border c.args.lengths.now c.args.regions.now c.args.codes.now c.args.numbers.now) in
+    let a = c.count_v-v.ensures ∙ sym (v_is j) in
+    let t = c.count_t-t.ensures ∙ sym (t_is j) in
+    let p = is_passed (check j (lengths_of ((buffers c.args.vertices.now c.args.polygons.now c.args.neighbours.now c.args.polyregions.now c.args.polycodes.now c.args.flags.now c.args.work.now)))) (sym (c.check.ensures c.args.w c.args.h c.args.border) ∙ c.in-Passed.is) in
+    let n = c.work_words-n.ensures in
+    let f = work_fits j ((buffers c.args.vertices.now c.args.polygons.now c.args.neighbours.now c.args.polyregions.now c.args.polycodes.now c.args.flags.now c.args.work.now)) p a n in
+    let m = length-take-le _ c.args.work.now f in
+    let both = built_all j ((buffers c.args.vertices.now c.args.polygons.now c.args.neighbours.now c.args.polyregions.now c.args.polycodes.now c.args.flags.now c.args.work.now)) p a t _ (m ∙ n) c.args.header c.build-reply.ensures (prefix_back c.args.work.now _ _ (c.build-reply.auto.work ∙ m) f) in
+    record { answer = both.0; words = both.1.0; accepted = both.1.1 }
