@@ -1,0 +1,12 @@
+-- `sheet::body::read_body` meets its contract. The loop's invariant is `Going`: what is left from the place now comes to what the whole comes to. The measure is the
+-- bytes that are left. Assumes nothing.
+use Prim.Native.Nat.{◌-◌}
+use lib.ListN.{length}
+use Rattle.sheet.proofs.Bodies.{Going}
+use Rattle.sheet.proofs.body.read_body.Given as goal
+
+abbrev pub invariant-loop-p : goal.invariant-loop-p
+invariant-loop-p l = Going l.text l.from l.p l.lengths l.regions l.codes l.numbers
+
+abbrev pub decreases-loop-p : goal.decreases-loop-p
+decreases-loop-p l = length l.text - l.p.at

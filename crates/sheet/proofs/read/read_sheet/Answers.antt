@@ -1,0 +1,20 @@
+-- `sheet::read::read_sheet` meets its contract: a sheet that is too long, a bad heading, or a good one and what is behind it. Assumes nothing.
+use Rattle.sheet.specs.Texts.{long_read, bad_heading, good_heading, body_ready}
+use Rattle.sheet.proofs.read.read_sheet.Goals as goal
+
+pub returns-then-text-gt65536 : goal.returns-then-text-gt65536
+returns-then-text-gt65536 c = long_read c.args.text.now _ _ _ _ c.if-text-gt65536.true
+
+pub read_contours-requires : goal.read_contours-requires
+read_contours-requires c =
+    body_ready c.args.text.now c.read_heading.result c.in-Headed.x c.in-Headed.is c.read_heading.ensures.1 c.if-text-gt65536.false c.requires
+
+pub returns-in-Refused : goal.returns-in-Refused
+returns-in-Refused c =
+    bad_heading c.args.text.now _ _ _ _ c.if-text-gt65536.false c.read_heading.result c.read_heading.ensures.0 c.read_heading.ensures.1
+    c.in-Refused.n c.in-Refused.k c.in-Refused.is
+
+pub returns-in-Headed : goal.returns-in-Headed
+returns-in-Headed c =
+    good_heading c.args.text.now _ _ _ _ c.if-text-gt65536.false c.read_heading.result c.read_heading.ensures.0 c.read_heading.ensures.1
+    c.in-Headed.x c.read_contours.result c.in-Headed.is c.read_contours.ensures
