@@ -27,7 +27,8 @@ unfolding mesh_in decoded vertex_count stored_vertices
 place_is vs c h = sym (place_read (handed_in 0 vs [] []) c h)
 
 -- what R7 gives, with a border and without
-pub bordered : (w h border : ℕ) {p q x y : Point} {r : ℕ} → 0 < border → p ≡ x → q ≡ y → r ≡ portal_of w h p q → r ≡ cond (ltb 0 border) (portal_of w h x y) none
+pub bordered : (w h border : ℕ) {p q x y : Point} {r : ℕ} → 0 < border → p ≡ x → q ≡ y → r ≡ portal_of w h p q → r ≡ cond (ltb 0 border) (portal_of w h x y)
+    none
 bordered w h border b e f g = rw (lt-ltb 0 border b, ← e, ← f) g
 
 pub borderless : (border : ℕ) (portal : ℕ) → border ≤ 0 → none ≡ cond (ltb 0 border) portal none

@@ -56,7 +56,8 @@ module _ (nvp : ℕ) (vs ps ls : List ℕ) where
   blocks_fail e = refused (handed_in nvp vs ps ls)
       (λ g. true≢false (sym (rw (eq-eqb (length vs) _ g.vertices, eq-eqb (length ps) _ g.polygons, eq-eqb (length ls) (length ps) g.links) refl) ∙ e))
 
-  pub grid_decides : off_limits ≡ false → too_many ≡ false → agreeing ≡ true → grid_holds vs (length vs / vertex_stride) ≡ buffers_hold (handed_in nvp vs ps ls)
+  pub grid_decides : off_limits ≡ false → too_many ≡ false → agreeing ≡ true → grid_holds vs (length vs / vertex_stride) ≡ buffers_hold
+      (handed_in nvp vs ps ls)
   unfolding buffers_hold blocks_agree are_few within_limits vertex_count polygon_count
   grid_decides a b c =
       let whole = eqb (length vs) (length vs / vertex_stride * vertex_stride) in

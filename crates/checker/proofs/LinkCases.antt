@@ -47,7 +47,8 @@ module _ {m : Handed} {np i : ℕ} {own mine : List ℕ} (p : PolygonAt m np i o
           ≡ link_holds (mesh_in m) i j
       unfolding link_holds
       another e =
-          rw (p.corners, link_is, lt-ltb (get_or mine j 0) none l, polygons_many m, ← p.count, lt-ltb (get_or mine j 0) np k, ne_eqb (get_or mine j 0) i e) refl
+          rw (p.corners, link_is, lt-ltb (get_or mine j 0) none l, polygons_many m, ← p.count, lt-ltb (get_or mine j 0) np k, ne_eqb (get_or mine j 0) i e)
+          refl
 
 -- the links of polygon i, of which `holds` says whether those of its sides hold: its words are lent as k words, and c is the count of its corners
 module _ (m : Handed) (i : ℕ) {holds : Bool} (q : holds ≡ all_of (link_holds (mesh_in m) i) 0 (length (corners_at (mesh_in m) i))) where

@@ -1,7 +1,5 @@
 use mathlib.Core.Path.{sym, ◌∙◌, ap}
 use mathlib.Core.Bool.{not}
-use Prim.Native.Nat.{◌-◌}
-use Rattle.rules.specs.Checks.{is_high}
 use Rattle.checker.specs.Steps.{grid_holds}
 use Rattle.checker.proofs.Looking.{pass_begin, pass_next, pass_fails, pass_end}
 use Rattle.checker.proofs.buffers.are_in_grid.Goals as goal

@@ -22,13 +22,17 @@ links_sound-requires c =
 
 pub returns-in-At : goal.returns-in-At
 returns-in-At c =
-    let found : let m = (handed_in c.args.nvp c.args.vertices.now c.args.polygons.now c.args.links.now) in
-    c.first_bad_corners.result ≡ first_fault (corners_hold m) (polygon_count m) = corners_first c.args.nvp c.args.vertices.now c.args.polygons.now c.args.links.now c.requires c.first_bad_corners.ensures in
-    fault_found BadCorners _ (found) c.in-At.is
+    let m = handed_in c.args.nvp c.args.vertices.now c.args.polygons.now c.args.links.now in
+    let found : let m = m in
+    c.first_bad_corners.result ≡ first_fault (corners_hold m) (polygon_count m) = corners_first c.args.nvp c.args.vertices.now c.args.polygons.now
+    c.args.links.now c.requires c.first_bad_corners.ensures in
+    fault_found BadCorners _ found c.in-At.is
 
 pub returns-in-Nothing : goal.returns-in-Nothing
 returns-in-Nothing c =
-    let found : let m = (handed_in c.args.nvp c.args.vertices.now c.args.polygons.now c.args.links.now) in
-    c.first_bad_corners.result ≡ first_fault (corners_hold m) (polygon_count m) = corners_first c.args.nvp c.args.vertices.now c.args.polygons.now c.args.links.now c.requires c.first_bad_corners.ensures in
+    let m = handed_in c.args.nvp c.args.vertices.now c.args.polygons.now c.args.links.now in
+    let found : let m = m in
+    c.first_bad_corners.result ≡ first_fault (corners_hold m) (polygon_count m) = corners_first c.args.nvp c.args.vertices.now c.args.polygons.now
+    c.args.links.now c.requires c.first_bad_corners.ensures in
     links_then c.args.nvp c.args.vertices.now c.args.polygons.now c.args.links.now c.links_sound.ensures
-    ∙ none_found BadCorners _ (found) c.in-Nothing.is
+    ∙ none_found BadCorners _ found c.in-Nothing.is

@@ -16,14 +16,16 @@ area_verdict-requires c =
 
 pub returns-in-At : goal.returns-in-At
 returns-in-At c =
-    let found : c.first_bad_portals.result ≡ first_fault (portals_hold ((let a = c.args in claim_in a.nvp a.w a.h a.border a.claim a.vertices.now a.polygons.now a.links.now))) (polygon_count ((let a = c.args in claim_in a.nvp a.w a.h a.border a.claim a.vertices.now a.polygons.now a.links.now)).mesh) = let a = c.args in
+    let asked = claim_in c.args.nvp c.args.w c.args.h c.args.border c.args.claim c.args.vertices.now c.args.polygons.now c.args.links.now in
+    let found : c.first_bad_portals.result ≡ first_fault (portals_hold asked) (polygon_count asked.mesh) = let a = c.args in
     portals_first a.nvp a.w a.h a.border a.claim a.vertices.now a.polygons.now a.links.now c.first_bad_portals.ensures in
-    portals_found ((let a = c.args in claim_in a.nvp a.w a.h a.border a.claim a.vertices.now a.polygons.now a.links.now)) (found) c.in-At.is
+    portals_found asked found c.in-At.is
 
 pub returns-in-Nothing : goal.returns-in-Nothing
 returns-in-Nothing c =
-    let found : c.first_bad_portals.result ≡ first_fault (portals_hold ((let a = c.args in claim_in a.nvp a.w a.h a.border a.claim a.vertices.now a.polygons.now a.links.now))) (polygon_count ((let a = c.args in claim_in a.nvp a.w a.h a.border a.claim a.vertices.now a.polygons.now a.links.now)).mesh) = let a = c.args in
+    let asked = claim_in c.args.nvp c.args.w c.args.h c.args.border c.args.claim c.args.vertices.now c.args.polygons.now c.args.links.now in
+    let found : c.first_bad_portals.result ≡ first_fault (portals_hold asked) (polygon_count asked.mesh) = let a = c.args in
     portals_first a.nvp a.w a.h a.border a.claim a.vertices.now a.polygons.now a.links.now c.first_bad_portals.ensures in
     let a = c.args in
-    portals_none ((let a = c.args in claim_in a.nvp a.w a.h a.border a.claim a.vertices.now a.polygons.now a.links.now)) (found) c.in-Nothing.is
+    portals_none asked found c.in-Nothing.is
     (area_last a.nvp a.w a.h a.border a.claim a.vertices.now a.polygons.now a.links.now c.ranges.claim c.area_verdict.ensures)

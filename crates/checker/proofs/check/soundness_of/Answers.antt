@@ -5,11 +5,16 @@ use Rattle.checker.specs.Asked.{handed_in}
 use Rattle.checker.proofs.check.soundness_of.Goals as goal
 
 pub rows_sound-requires : goal.rows_sound-requires
-rows_sound-requires c = good_buffers ((handed_in c.args.nvp c.args.vertices.now c.args.polygons.now c.args.links.now)) (sym c.buffers_hold.ensures ∙ c.if-buffers_hold.true)
+rows_sound-requires c =
+    let m = handed_in c.args.nvp c.args.vertices.now c.args.polygons.now c.args.links.now in
+    good_buffers m (sym c.buffers_hold.ensures ∙ c.if-buffers_hold.true)
 
 pub returns-then-buffers_hold : goal.returns-then-buffers_hold
 returns-then-buffers_hold c =
-    c.rows_sound.ensures ∙ sym (in_order_lem ((handed_in c.args.nvp c.args.vertices.now c.args.polygons.now c.args.links.now)) (sym c.buffers_hold.ensures ∙ c.if-buffers_hold.true))
+    let m = handed_in c.args.nvp c.args.vertices.now c.args.polygons.now c.args.links.now in
+    c.rows_sound.ensures ∙ sym (in_order_lem m (sym c.buffers_hold.ensures ∙ c.if-buffers_hold.true))
 
 pub returns : goal.returns
-returns c = sym (out_of_order ((handed_in c.args.nvp c.args.vertices.now c.args.polygons.now c.args.links.now)) (sym c.buffers_hold.ensures ∙ c.if-buffers_hold.false))
+returns c =
+    let m = handed_in c.args.nvp c.args.vertices.now c.args.polygons.now c.args.links.now in
+    sym (out_of_order m (sym c.buffers_hold.ensures ∙ c.if-buffers_hold.false))

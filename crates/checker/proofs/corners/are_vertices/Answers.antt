@@ -1,14 +1,9 @@
-use Prim.Native.Nat.{◌-◌}
-use mir.Facts.{Fits-widen}
 use borrow.Author.Tests.{lt-ltb, le-ltb}
 use Rattle.checker.proofs.Looking.{pass_begin, pass_next, pass_fails, pass_end}
 use Rattle.checker.proofs.corners.are_vertices.Goals as goal
 
 pub loop-k-init : goal.loop-k-init
 loop-k-init c = pass_begin _ _ _
-
-pub overflow_cast-row : goal.overflow_cast-row
-overflow_cast-row c = Fits-widen tt (c.shared_slice_known-1.given _)
 
 pub returns-then-nv-row : goal.returns-then-nv-row
 returns-then-nv-row c = pass_fails c.loop-k.invariant c.loop-k-test.true (le-ltb _ _ c.if-nv-row.true)

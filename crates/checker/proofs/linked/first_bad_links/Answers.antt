@@ -1,6 +1,4 @@
 use mathlib.Core.Path.{sym, ◌∙◌}
-use Prim.Native.Nat.{◌-◌}
-use Rattle.rules.specs.Handed.{links_hold}
 use Rattle.checker.proofs.Looking.{fault_begin, fault_next, fault_here, fault_end}
 use Rattle.checker.proofs.linked.first_bad_links.Goals as goal
 

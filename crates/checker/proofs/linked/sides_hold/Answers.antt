@@ -1,6 +1,4 @@
 use mathlib.Core.Path.{sym, ◌∙◌}
-use Prim.Native.Nat.{◌-◌}
-use Rattle.rules.specs.Handed.{link_holds}
 use Rattle.checker.proofs.Looking.{pass_begin, pass_next, pass_fails, pass_end}
 use Rattle.checker.proofs.linked.sides_hold.Goals as goal
 

@@ -1,6 +1,4 @@
 use mathlib.Core.Path.{sym, ◌∙◌}
-use Prim.Native.Nat.{◌-◌}
-use Rattle.rules.specs.Checker.{portals_hold}
 use Rattle.checker.proofs.Looking.{fault_begin, fault_next, fault_here, fault_end}
 use Rattle.checker.proofs.portals.first_bad_portals.Goals as goal
 

@@ -8,7 +8,7 @@ use Rattle.checker.proofs.Looking.{Faultless}
 use Rattle.checker.proofs.portals.first_bad_portals.Given as goal
 
 abbrev pub invariant-loop-i : goal.invariant-loop-i
-invariant-loop-i l =     let holds = portals_hold (unclaimed_in l.nvp l.w l.h l.border l.vertices l.polygons l.links) in
+invariant-loop-i l = let holds = portals_hold (unclaimed_in l.nvp l.w l.h l.border l.vertices l.polygons l.links) in
     Faultless holds (first_fault holds l.np) l.np l.i
 
 abbrev pub decreases-loop-i : goal.decreases-loop-i

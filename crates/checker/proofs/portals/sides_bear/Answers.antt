@@ -1,6 +1,4 @@
 use mathlib.Core.Path.{sym, ◌∙◌}
-use Prim.Native.Nat.{◌-◌}
-use Rattle.checker.specs.Steps.{side_bears}
 use Rattle.checker.proofs.Looking.{pass_begin, pass_next, pass_fails, pass_end}
 use Rattle.checker.proofs.portals.sides_bear.Goals as goal
 

@@ -1,6 +1,4 @@
 use mathlib.Core.Path.{sym, ◌∙◌}
-use Prim.Native.Nat.{◌-◌}
-use Rattle.rules.specs.Handed.{names_back}
 use Rattle.checker.proofs.Looking.{seek_begin, seek_next, seek_found, seek_end}
 use Rattle.checker.proofs.sides.is_named_back.Goals as goal
 

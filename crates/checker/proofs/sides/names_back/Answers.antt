@@ -9,12 +9,14 @@ use Rattle.checker.proofs.sides.names_back.Goals as goal
 
 pub offset_bounds-corners-e : goal.offset_bounds-corners-e
 offset_bounds-corners-e c =
-    let below : c.next-e.result < length c.args.corners.now = rw c.next-e.ensures (next_below c.args.q (length c.args.corners.now) (omega (arith, c.requires.0))) in
+    let below : c.next-e.result < length c.args.corners.now =
+    rw c.next-e.ensures (next_below c.args.q (length c.args.corners.now) (omega (arith, c.requires.0))) in
     record { fits = omega (arith, below) }
 
 pub bounds-corners-e : goal.bounds-corners-e
 bounds-corners-e c =
-    let below : c.next-e.result < length c.args.corners.now = rw c.next-e.ensures (next_below c.args.q (length c.args.corners.now) (omega (arith, c.requires.0))) in
+    let below : c.next-e.result < length c.args.corners.now =
+    rw c.next-e.ensures (next_below c.args.q (length c.args.corners.now) (omega (arith, c.requires.0))) in
     below
 
 pub returns-then-corners-e : goal.returns-then-corners-e
