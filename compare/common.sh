@@ -57,20 +57,20 @@ find_library() {
         [ -r "$library" ] || die "can't read $library, which MITTENCREST_LIBRARY names"
         return
     fi
-    library=$root/target/staticlib/libcapi.a
+    library=$root/crates/capi/out/libcapi.a
     local note=$out/libcapi sum log=$out/library.log
-    sum=$(cd "$root" && find crates crates.txt -type f \( -name '*.rt' -o -name '*.antt' -o -name crates.txt \) -print0 | sort -z |
+    sum=$(cd "$root" && find crates crates.txt -name out -prune -o -type f \( -name '*.rt' -o -name '*.antt' -o -name crates.txt \) -print0 | sort -z |
         xargs -0 sha256sum | sha256sum)
     if [ -e "$library" ] && made_from "$note" "$sum"; then return; fi
     command -v rt >/dev/null || die "the Rattle kit isn't on this machine: no command 'rt'. It is needed to prove and build the library (README.md says which kit); MITTENCREST_LIBRARY may name one that was built elsewhere"
     say "proving and building the library; this takes some minutes"
-    (cd "$root" && rt staticlib capi) >"$log" 2>&1 || die "the library could not be built: $log says why"
+    (cd "$root/crates/capi" && rt lib) >"$log" 2>&1 || die "the library could not be built: $log says why"
     [ -e "$library" ] || die "the library was proved, but $library isn't there: $log says more"
     printf '%s\n' "$sum" >"$note.sum"
     touch "$note"
 }
 
-# The C compiler for x86-64, in `cc`, and what runs its programs, in `runner`: nothing, or the kit's emulator.
+# The C compiler for x86-64, in `cc`, and what runs its programs, in `runner`: nothing, or Debian's emulator.
 find_compiler() {
     runner=()
     if [ "$(uname -m)" = x86_64 ]; then
@@ -81,9 +81,8 @@ find_compiler() {
     install_for x86_64-linux-gnu-gcc gcc-x86-64-linux-gnu libc6-dev-amd64-cross
     # linked with all its libraries, so that the emulator needs none
     cc=(x86_64-linux-gnu-gcc -static)
-    command -v rt >/dev/null || die "the Rattle kit isn't on this machine: no command 'rt'. Its emulator is needed to run x86-64 programs on this processor"
-    runner=("$(dirname "$(dirname "$(rt doc)")")/on/$(uname -m)/toolchain/bin/qemu-x86_64")
-    [ -x "${runner[0]}" ] || die "the kit has no emulator at ${runner[0]}"
+    install_for qemu-x86_64 qemu-user
+    runner=(qemu-x86_64)
 }
 
 # The Rust compiler, at least of this version. Debian's packages are older.

@@ -4,7 +4,7 @@
  * first refusal that applies, and a refusal writes to no output buffer; the mender, the checker and the writer and reader of
  * binary STL do what document 02's requests say, likewise. What they do is said in crates/rules; what is promised of each, in docs/PROMISES.md.
  *
- * `rt staticlib capi` writes target/staticlib/libcapi.a, for x86-64. A slice is a pointer and its count of elements. The pointer of
+ * `rt lib`, in crates/capi, writes crates/capi/out/libcapi.a, for x86-64. A slice is a pointer and its count of elements. The pointer of
  * an empty one may be null. Slices must not overlap, but for those that are only read.
  */
 #ifndef MITTENCREST_H

@@ -1,20 +1,14 @@
 // Writes a line to standard output for each point that the job sheet on standard input loses where its contours are mended.
 #![tactic(auto)]
 
-use libc::{STDIN_FILENO, STDOUT_FILENO};
+use anyhow::{Context, Result};
+use streams::read_full;
 
-fn main() {
+fn main(rt: HostRuntime) -> Result<()> {
     // One byte more than a sheet may have, so that too many show.
     let mut input = [0u8; 65537];
-    let n = io::read_full(STDIN_FILENO, &mut input);
-    if os::errno() != 0 {
-        os::fail(b"standard input");
-        return;
-    }
+    let n = read_full(&mut rt.stdin(), &mut input).context("standard input")?;
     let mut out = [0u8; 65536];
     let m = mendsheet::lost_sheet(&input[..n], &mut out);
-    if io::write_all(STDOUT_FILENO, &out[..m]) {
-        return;
-    }
-    os::fail(b"standard output");
+    rt.write_all(&out[..m]).context("standard output")
 }

@@ -5,7 +5,8 @@
 ghost use Rattle.std.specs.Prelude.{◌≡◌, ◌<◌, length};
 ghost use Rattle.replay.specs.Sheets.{is_gap, EndsAt};
 
-use libc::STDOUT_FILENO;
+use std::rt::Files;
+use std::{fs, io};
 
 // Whether an empty line ends at i.
 fn is_gap(text: &[u8], i: usize) -> bool
@@ -31,37 +32,33 @@ fn sheet_end(text: &[u8], at: usize) -> usize
 }
 
 // The answer to one sheet, with an empty line behind it.
-fn answer_one(text: &[u8]) {
+fn answer_one(rt: &impl Print, text: &[u8]) -> io::Result<()> {
     let mut out = [0u8; 65536];
     let m = sheet::mesh_sheet(text, &mut out);
-    io::write_all(STDOUT_FILENO, &out[..m]);
-    io::write_all(STDOUT_FILENO, b"\n");
+    rt.write_all(&out[..m])?;
+    rt.write_all(b"\n")
 }
 
 // The answers to all sheets of a text.
-fn answer_all(text: &[u8]) {
+fn answer_all(rt: &impl Print, text: &[u8]) -> io::Result<()> {
     let mut at = 0;
     while at < text.len() {
         let e = sheet_end(text, at);
-        answer_one(&text[at..e]);
+        answer_one(rt, &text[at..e])?;
         at = e + 1;
     }
+    Ok(())
 }
 
-// The answers to all sheets of a file.
-fn replay(name: &[u8]) {
-    let fd = os::open_read(name);
-    if fd < 0 {
-        os::fail(name);
-        return;
+// The answers to all sheets of a file; where it can't be read, standard error says so.
+fn replay(rt: &(impl Files + Print + Eprint + AllocGlobal), name: &str) -> io::Result<()> {
+    match fs::read(rt, name) {
+        Ok(text) => answer_all(rt, &text),
+        Err(error) => eprintln!(rt; "{name}: {error}"),
     }
-    let mut input = [0u8; 524288];
-    let n = io::read_full(fd, &mut input);
-    libc::close(fd);
-    answer_all(&input[..n]);
 }
 
-fn main() {
-    replay(b"near");
-    replay(b"far");
+fn main(rt: HostRuntime) -> io::Result<()> {
+    replay(&rt, "near")?;
+    replay(&rt, "far")
 }
