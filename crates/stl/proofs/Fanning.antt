@@ -53,7 +53,8 @@ module _ (size height : Float) (vs cs : List ℕ) where
       let n = length cs - 2 in
       packed_over facet_bytes [] (tab facet_at n)
       ∙ ap (texts_from (λ j. facet_bytes (get_or (tab facet_at n) j [])) 0) (length_tab facet_at n)
-      ∙ over_cong [] ◌++◌ (λ j. facet_bytes (get_or (tab facet_at n) j [])) (λ j. facet_bytes (facet_at j)) 0 n (λ j a h. ap facet_bytes (get_or_tab facet_at n j [] h))
+      ∙ over_cong [] ◌++◌ (λ j. facet_bytes (get_or (tab facet_at n) j [])) (λ j. facet_bytes (facet_at j)) 0 n
+      (λ j a h. ap facet_bytes (get_or_tab facet_at n j [] h))
 
   facet_size : (j : ℕ) → length (facet_bytes (facet_at j)) ≡ 50
   facet_size j = let corner = corner_of (vertices_in vs) cs in facet_long (facet_at j) (facet_is size height (corner 0) (corner (j + 1)) (corner (j + 2)))
@@ -120,7 +121,8 @@ module _ (nvp np : ℕ) (ps : List ℕ) where
       omega (arith, up_to_few (view ps (i * nvp) nvp), length_view ps (i * nvp) nvp (block_fits i np nvp (length ps) h g.words), g.most)
 
   -- the facets of all, polygon by polygon
-  pub facets_over : (size height : Float) (vs : List ℕ) → facets_bytes size height nvp np vs ps ≡ texts_from (λ i. fan_bytes size height vs (row_at nvp ps i)) 0 np
+  pub facets_over : (size height : Float) (vs : List ℕ) → facets_bytes size height nvp np vs ps ≡ texts_from
+      (λ i. fan_bytes size height vs (row_at nvp ps i)) 0 np
   unfolding facets_bytes facets_of fan_bytes
   facets_over size height vs =
       let fan : ℕ → List (List ℕ) = λ i. fan_of size height (vertices_in vs) (polygon_at (polygons_in nvp np ps) i).corners in

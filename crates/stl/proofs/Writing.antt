@@ -152,7 +152,8 @@ module _ (nvp : ℕ) (vs ps ls : List ℕ) where
           → (r ≡ stl_reply mesh s (length file)) × (x ≡ stl_exit mesh s file)
       sound_written {r} {x} e p =
           left_so
-          (p.0 ∙ ap (λ (n : ℕ). cond (is_scale s) (room_reply n (length file)) BadScale) (sym count_is) ∙ sym (sound_reply mesh s (length file) (sym t_is ∙ e)))
+          (p.0 ∙ ap (λ (n : ℕ). cond (is_scale s) (room_reply n (length file)) BadScale) (sym count_is)
+          ∙ sym (sound_reply mesh s (length file) (sym t_is ∙ e)))
           (p.1 ∙ ap (λ (l : List ℕ). stl_left l file r) (sym (file_is s)))
 
       pub broken_refused : {f : Fault} → t ≡ Broken f → (BadMesh f ≡ stl_reply mesh s (length file)) × (file ≡ stl_exit mesh s file)
