@@ -1,0 +1,43 @@
+-- `checksheet::places::place_line` meets its contract, by the line's numbers: three words set one by one are the three numbers. Assumes nothing.
+use native.Mathlib.Omega.{arith}
+use lib.ListN.{length-set}
+use Rattle.rules.specs.Lines.{ascii}
+use Rattle.rules.specs.Sheet.{v_name}
+use Rattle.lines.specs.Taken.{good_read, bad_read}
+use Rattle.checksheet.proofs.PlaceLines.{PlaceGood, place_most, place_bad, place_put}
+use Rattle.checksheet.proofs.places.place_line.Goals as goal
+
+pub overflow_cast-vertices : goal.overflow_cast-vertices
+unfolding v_name ascii
+overflow_cast-vertices c =
+    let good_line : PlaceGood c.args.text.now c.args.p.at c.read_line-place.result = good_read _ _ _ _ _ c.read_line-place.ensures c.if-place.true in
+    record { fits = omega (arith, place_most (good_line)) }
+
+pub overflow_cast-vertices-then-place : goal.overflow_cast-vertices-then-place
+unfolding v_name ascii
+overflow_cast-vertices-then-place c =
+    let good_line : PlaceGood c.args.text.now c.args.p.at c.read_line-place.result = good_read _ _ _ _ _ c.read_line-place.ensures c.if-place.true in
+    record { fits = omega (arith, place_most (good_line)) }
+
+pub bounds-vertices-k-then-place : goal.bounds-vertices-k-then-place
+bounds-vertices-k-then-place c = simp length-set (omega (arith, c.requires.room))
+
+pub overflow_cast-vertices-then-place-2 : goal.overflow_cast-vertices-then-place-2
+unfolding v_name ascii
+overflow_cast-vertices-then-place-2 c =
+    let good_line : PlaceGood c.args.text.now c.args.p.at c.read_line-place.result = good_read _ _ _ _ _ c.read_line-place.ensures c.if-place.true in
+    record { fits = omega (arith, place_most (good_line)) }
+
+pub bounds-vertices-k-then-place-2 : goal.bounds-vertices-k-then-place-2
+bounds-vertices-k-then-place-2 c = simp length-set (omega (arith, c.requires.room))
+
+pub returns-then-place : goal.returns-then-place
+unfolding v_name ascii
+returns-then-place c =
+    let good_line : PlaceGood c.args.text.now c.args.p.at c.read_line-place.result = good_read _ _ _ _ _ c.read_line-place.ensures c.if-place.true in
+    place_put c.requires (good_line)
+
+pub returns : goal.returns
+unfolding v_name ascii
+returns c =
+    place_bad c.requires (bad_read _ _ _ _ _ c.read_line-place.ensures c.if-place.false) c.stopped.ensures
