@@ -1,5 +1,4 @@
 use mathlib.Core.Path.{sym}
-use Prim.Native.Nat.{◌-◌}
 use native.Mathlib.Omega.{arith}
 use Rattle.lines.proofs.Decimals.{no_digits, leading_zero, reading_zero, reading_begin, below_digits, above_digits, reading_other, reading_large, reading_next, reading_below, reading_value}
 use Rattle.lines.proofs.decimal.read_decimal.Goals as goal
