@@ -48,8 +48,11 @@ shape_of-work-in-Done c = c.fill-in-Done.auto.work ∙ c.fill.auto.work ∙ c.me
 pub returns-in-Done : goal.returns-in-Done
 returns-in-Done c =
     let x = was_done _ _ (rw c.in-Done.is at c.cut_contour.ensures.answer) in
-    let e = c.mesh_contour-p.ensures in record { answer = add_answer c.requires c.cut_contour.ensures.words x.ts x.is c.weld_contour-v.ensures x.count e.meshed; words = add_over c.requires c.cut_contour.ensures.words x.ts x.is c.weld_contour-v.ensures x.count e.meshed e.is
-          c.fill.ensures c.fill-in-Done.ensures }
+    let e = c.mesh_contour-p.ensures in record {
+      answer = add_answer c.requires c.cut_contour.ensures.words x.ts x.is c.weld_contour-v.ensures x.count e.meshed;
+      words = add_over c.requires c.cut_contour.ensures.words x.ts x.is c.weld_contour-v.ensures x.count e.meshed e.is
+          c.fill.ensures c.fill-in-Done.ensures;
+    }
 
 pub returns-in-Stuck : goal.returns-in-Stuck
 returns-in-Stuck c =

@@ -1,6 +1,5 @@
 use Prim.Native.Nat.{◌^◌, ◌<◌}
 use mathlib.Core.Path.{◌∙◌}
-use Prim.Native.Nat.{◌-◌}
 use lib.ListN.{length}
 use native.Mathlib.Omega.{arith}
 use Rattle.contours.proofs.Gathers.{few_contours, going_begin, going_lists, going_ready, going_first, going_more, going_stuck, going_end}
