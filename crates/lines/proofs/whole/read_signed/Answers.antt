@@ -20,15 +20,15 @@ overflow_sub-result c =
     let behind : SFits w64 (pos c.in-Value.n) = value_fits 1 c.args.most _ c.requires c.read_decimal.ensures c.in-Value.is in
     turned_fits (behind)
 
-pub returns-in-Malformed : goal.returns-in-Malformed
-returns-in-Malformed c =
-    minus_bad c.args.most c.args.cell.now c.if-cell-gt0.true c.if-cell-eq45.true c.read_decimal.ensures c.in-Malformed.is
-
 pub returns-in-Value : goal.returns-in-Value
 returns-in-Value c =
     let behind : SFits w64 (pos c.in-Value.n) = value_fits 1 c.args.most _ c.requires c.read_decimal.ensures c.in-Value.is in
     minus_value c.args.most c.args.cell.now c.if-cell-gt0.true c.if-cell-eq45.true c.read_decimal.ensures c.in-Value.is
     (behind)
+
+pub returns-in-Malformed : goal.returns-in-Malformed
+returns-in-Malformed c =
+    minus_bad c.args.most c.args.cell.now c.if-cell-gt0.true c.if-cell-eq45.true c.read_decimal.ensures c.in-Malformed.is
 
 pub overflow_cast-result-in-Value-read_decimal : goal.overflow_cast-result-in-Value-read_decimal
 overflow_cast-result-in-Value-read_decimal c =
