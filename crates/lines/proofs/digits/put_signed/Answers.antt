@@ -29,7 +29,8 @@ put_decimal-requires c =
     rw l.reads (omega (arith, length-set c.args.out.now c.args.at 45, r))
 
 pub returns-then-z-lt0 : goal.returns-then-z-lt0
-returns-then-z-lt0 c = let l = (below c.ranges.z refl c.if-z-lt0.true) in printed_as (printed_then (printed_one _ _ 45) (rw l.reads at c.put_decimal.ensures)) (sym l.text)
+returns-then-z-lt0 c = let l = (below c.ranges.z refl c.if-z-lt0.true) in
+    printed_as (printed_then (printed_one _ _ 45) (rw l.reads at c.put_decimal.ensures)) (sym l.text)
 
 pub shape_of-out-then-z-lt0 : goal.shape_of-out-then-z-lt0
 shape_of-out-then-z-lt0 c = printed_same_length (returns-then-z-lt0 c)
