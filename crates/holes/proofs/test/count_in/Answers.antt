@@ -20,7 +20,11 @@ loop-i-preserved c =
     let h : at.i < length g.s.now = omega arith in (
       search rules,
       elim c.if-s-i.branch [ then-s-i w ↦ omega arith | else-s-i w ↦ omega arith ],
-      elim c.if-s-i.branch [ then-s-i w ↦ omega (arith, count_hit g.v g.s.now at.i h (search rules)) | else-s-i w ↦ omega (arith, count_miss g.v g.s.now at.i h (search rules)) ],
+      elim c.if-s-i.branch [
+        | then-s-i w ↦ omega (arith, count_hit g.v g.s.now at.i h (search rules))
+        | else-s-i w ↦ omega
+            (arith, count_miss g.v g.s.now at.i h (search rules))
+      ],
     )
 
 pub returns : goal.returns
