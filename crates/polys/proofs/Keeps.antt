@@ -1,17 +1,17 @@
 -- The kept rows in the buffer: their words, one row after the other from the last one down, and the best pair from them. Assumes nothing.
 -- Key: `keeping_more`: a row more is kept, and nothing else has changed; `row_read`: what is read of a row is the row, against the best so far.
 use mathlib.Core.Path.{◌≡◌, refl, sym, ap, ◌∙◌}
-use mathlib.Core.Bool.{Bool, true, false}
+use mathlib.Core.Bool.{Bool, true}
 use mathlib.Core.Logic.{⊎_elim, ◌≢◌}
 use mathlib.Core.List.{List, [], ◌∷◌}
-use Prim.Native.Nat.{ℕ, ◌+◌, ◌-◌, ◌*◌, ◌^◌, ◌≤◌, ◌<◌}
+use Prim.Native.Nat.{ℕ, ◌+◌, ◌-◌, ◌*◌, ◌≤◌, ◌<◌}
 use native.Mathlib.Omega.{arith}
 use borrow.Author.Tests.{eqb-true}
 use lib.Bits.{bit_and}
 use lib.Dec.{eqb}
 use lib.ListN.{length, get_or, set, replicate, length-replicate}
 use Rattle.mem.specs.Cases.{lt_or_le, eq_or_ne}
-use Rattle.mem.specs.Slice.{view, splice, length_splice, view_before, view_after, view_same, get_or_view, set_each, stored_each}
+use Rattle.mem.specs.Slice.{splice, length_splice, view_before, view_after, view_same, get_or_view, set_each, stored_each}
 use Rattle.mem.specs.Tab.{blocks_after}
 use Rattle.mem.specs.Zeros.{swallowed}
 use Rattle.rules.specs.Mesh.{Polygon, polygon_at}

@@ -15,7 +15,7 @@ use Rattle.laws.proofs.Rows.{still, polygon_stays, row_stays}
 use Rattle.laws.specs.Stamps.{stamp_of}
 use Rattle.records.specs.Layout.{vertices_at, polygons_at}
 use Rattle.records.specs.Polygons.{length_polygons}
-use Rattle.polys.specs.Rows.{row_size, row_record, row_at, row_in, stamp_in, Stamped, Renewable, AllRenewable}
+use Rattle.polys.specs.Rows.{row_size, row_record, row_in, stamp_in, Stamped, Renewable, AllRenewable}
 use Rattle.polys.proofs.Keeps.{length_read, second_read, stamp_read, Keeping, kept_behind}
 
 -- ---- whether a pair reaches a row

@@ -29,7 +29,7 @@ use Rattle.trails.specs.declared.walk.Walked.{Walked}
 use Rattle.holes.specs.Clear.{TidyVertices, ClearReady, ClearedTo}
 use Rattle.removals.specs.declared.site.Site.{Site}
 use Rattle.removals.specs.declared.site.Counts.{Counts}
-use Rattle.removals.specs.Site.{mesh_at, standing, mesh_in, Fits, Stands}
+use Rattle.removals.specs.Site.{mesh_at, mesh_in, Fits, Stands}
 use Rattle.removals.specs.Removing.{ClosedTo, RemoveReady, hole_around, opened_in, OpenedTo}
 use Rattle.holes.specs.Small.{small_good}
 use Rattle.removals.specs.Stages.{Stage, stage_size, anew_vertices, anew_polygons, anew_scratch, plain, vertices_tidy, vertices_read, marks_read, polygons_within, polygons_read, polygons_tidy, scratch_read}

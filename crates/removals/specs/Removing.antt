@@ -1,5 +1,5 @@
 -- What the functions of a removal ask for, and what they leave. Definitions only.
-use Rattle.std.specs.Prelude.{◌≡◌, List, ◌++◌, ℕ, ◌+◌, ◌-◌, ◌*◌, ◌≤◌, ◌<◌, length, replicate}
+use Rattle.std.specs.Prelude.{◌≡◌, List, ◌++◌, ℕ, ◌-◌, ◌*◌, ◌≤◌, ◌<◌, length, replicate}
 use Rattle.mem.specs.Slice.{splice}
 use Rattle.rules.specs.Lists.{without}
 use Rattle.rules.specs.Mesh.{no_polygon, Mesh, no_mesh}

@@ -75,10 +75,10 @@ pub check_room-requires : goal.check_room-requires
 check_room-requires c =
     let limit-says : (w h border : ℕ) → c.check_nvp-limit.result ≡ verdict_of (check_nvp ((job_of c.args.nvp w h border c.args.lengths.now c.args.regions.now c.args.codes.now c.args.numbers.now))) = λ w h border. c.check_nvp-limit.ensures ((job_of c.args.nvp w h border c.args.lengths.now c.args.regions.now c.args.codes.now c.args.numbers.now)) refl in
     record {
-  nvp_most = limit_low ((job_of (((c.before.before.before.before.before.before.before))).args.nvp 0 0 0 (((c.before.before.before.before.before.before.before))).args.lengths.now (((c.before.before.before.before.before.before.before))).args.regions.now (((c.before.before.before.before.before.before.before))).args.codes.now (((c.before.before.before.before.before.before.before))).args.numbers.now)) (limit-says 0 0 0) c.in-Passed.is;
-  v_most = few c.check_v-many.ensures c.in-Passed-many.is;
-  t_most = t_below ((job_of (((c.before.before.before.before.before.before.before))).args.nvp 0 0 0 (((c.before.before.before.before.before.before.before))).args.lengths.now (((c.before.before.before.before.before.before.before))).args.regions.now (((c.before.before.before.before.before.before.before))).args.codes.now (((c.before.before.before.before.before.before.before))).args.numbers.now)) c.count_v-v.ensures c.count_t.ensures;
-}
+      nvp_most = limit_low ((job_of (((c.before.before.before.before.before.before.before))).args.nvp 0 0 0 (((c.before.before.before.before.before.before.before))).args.lengths.now (((c.before.before.before.before.before.before.before))).args.regions.now (((c.before.before.before.before.before.before.before))).args.codes.now (((c.before.before.before.before.before.before.before))).args.numbers.now)) (limit-says 0 0 0) c.in-Passed.is;
+      v_most = few c.check_v-many.ensures c.in-Passed-many.is;
+      t_most = t_below ((job_of (((c.before.before.before.before.before.before.before))).args.nvp 0 0 0 (((c.before.before.before.before.before.before.before))).args.lengths.now (((c.before.before.before.before.before.before.before))).args.regions.now (((c.before.before.before.before.before.before.before))).args.codes.now (((c.before.before.before.before.before.before.before))).args.numbers.now)) c.count_v-v.ensures c.count_t.ensures;
+    }
 
 pub returns : goal.returns
 returns c w h border =

@@ -1,5 +1,4 @@
 use mathlib.Core.Path.{sym, ◌∙◌}
-use Prim.Native.Nat.{◌-◌}
 use Rattle.checks.specs.Answers.{first_bad_flag_in}
 use Rattle.checks.proofs.Seeking.{seek_begin, seek_next, seek_hit, seek_end}
 use Rattle.checks.proofs.vertices.first_bad_flag.Goals as goal

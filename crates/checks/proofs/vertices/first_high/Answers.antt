@@ -1,6 +1,4 @@
 use mathlib.Core.Path.{sym, ◌∙◌}
-use Prim.Native.Nat.{◌-◌}
-use Rattle.rules.specs.Checks.{is_high}
 use Rattle.checks.specs.Answers.{first_high_in}
 use Rattle.checks.proofs.Seeking.{seek_begin, seek_next, seek_hit, seek_end}
 use Rattle.checks.proofs.vertices.first_high.Goals as goal

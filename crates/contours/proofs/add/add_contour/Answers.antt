@@ -8,6 +8,15 @@ use Rattle.contours.proofs.Adds.{contour_cut_ready, contour_weld_ready, contour_
 use Rattle.contours.proofs.Adds.{add_over, add_answer, stuck_words, stuck_answer}
 use Rattle.contours.proofs.add.add_contour.Goals as goal
 
+pub returns-in-Done : goal.returns-in-Done
+returns-in-Done c =
+    let x = was_done _ _ (rw c.in-Done.is at c.cut_contour.ensures.answer) in
+    let e = c.mesh_contour-p.ensures in record {
+      answer = add_answer c.requires c.cut_contour.ensures.words x.ts x.is c.weld_contour-v.ensures x.count e.meshed;
+      words = add_over c.requires c.cut_contour.ensures.words x.ts x.is c.weld_contour-v.ensures x.count e.meshed e.is
+          c.fill.ensures c.fill-in-Done.ensures;
+    }
+
 pub cut_contour-requires : goal.cut_contour-requires
 cut_contour-requires c = contour_cut_ready c.requires
 
@@ -24,7 +33,14 @@ mesh_contour-p-requires c =
     contour_mesh_ready c.requires h.ensures.words x.ts x.is c.weld_contour-v.ensures x.count
 
 pub fill-requires : goal.fill-requires
-fill-requires c = omega (arith, c.mesh_contour-p.auto.work, c.weld_contour-v.auto.work, c.cut_contour.auto.work, c.requires.vertices, c.requires.stands.fits.scratch)
+fill-requires c = omega (
+  arith,
+  c.mesh_contour-p.auto.work,
+  c.weld_contour-v.auto.work,
+  c.cut_contour.auto.work,
+  c.requires.vertices,
+  c.requires.stands.fits.scratch,
+)
 
 pub overflow_mul-c : goal.overflow_mul-c
 overflow_mul-c c = record { fits = omega (arith, c.requires.vertices, c.requires.stands.few) }
@@ -33,7 +49,15 @@ pub overflow_sub-c : goal.overflow_sub-c
 overflow_sub-c c = omega (arith, c.requires.some)
 
 pub fill-requires-in-Done : goal.fill-requires-in-Done
-fill-requires-in-Done c = omega (arith, c.fill.auto.work, c.mesh_contour-p.auto.work, c.weld_contour-v.auto.work, c.cut_contour.auto.work, c.requires.vertices, c.requires.stands.fits.scratch)
+fill-requires-in-Done c = omega (
+  arith,
+  c.fill.auto.work,
+  c.mesh_contour-p.auto.work,
+  c.weld_contour-v.auto.work,
+  c.cut_contour.auto.work,
+  c.requires.vertices,
+  c.requires.stands.fits.scratch,
+)
 
 pub overflow_add-result : goal.overflow_add-result
 overflow_add-result c =
@@ -44,12 +68,6 @@ overflow_add-result c =
 
 pub shape_of-work-in-Done : goal.shape_of-work-in-Done
 shape_of-work-in-Done c = c.fill-in-Done.auto.work ∙ c.fill.auto.work ∙ c.mesh_contour-p.auto.work ∙ c.weld_contour-v.auto.work ∙ c.cut_contour.auto.work
-
-pub returns-in-Done : goal.returns-in-Done
-returns-in-Done c =
-    let x = was_done _ _ (rw c.in-Done.is at c.cut_contour.ensures.answer) in
-    let e = c.mesh_contour-p.ensures in record { answer = add_answer c.requires c.cut_contour.ensures.words x.ts x.is c.weld_contour-v.ensures x.count e.meshed; words = add_over c.requires c.cut_contour.ensures.words x.ts x.is c.weld_contour-v.ensures x.count e.meshed e.is
-          c.fill.ensures c.fill-in-Done.ensures }
 
 pub returns-in-Stuck : goal.returns-in-Stuck
 returns-in-Stuck c =

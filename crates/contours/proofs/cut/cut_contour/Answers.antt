@@ -22,6 +22,10 @@ returns c =
     let x = c.lay_contour.new.work in
     let e : po + (n * 6 - 6) - po ≡ n * 6 - 6 = omega arith in
     let l : length x ≡ length c.args.work.now = c.lay_contour.auto.work in
-    let p = cut_places c.requires c.lay_contour.ensures in record { answer = c.triangulate.ensures.answer ∙ ap (λ (k : ℕ). answer_of (triangulate (points_of n (view x po k)))) e ∙ rw p; words = cut_words_lem c.requires c.lay_contour.ensures
-          (lent_part (λ (t : List ℕ). cut_in n t (triangulate (points_of n t))) x c.triangulate.new.part po (n * 6 - 6) _ e c.triangulate.ensures.words c.triangulate.auto.part
-          (omega (arith, c.requires.room))) }
+    let p = cut_places c.requires c.lay_contour.ensures in record {
+      answer = c.triangulate.ensures.answer ∙ ap (λ (k : ℕ). answer_of (triangulate (points_of n (view x po k)))) e ∙ rw p;
+      words = cut_words_lem c.requires c.lay_contour.ensures
+          (lent_part (λ (t : List ℕ). cut_in n t (triangulate (points_of n t))) x c.triangulate.new.part po (n * 6 - 6) _ e
+          c.triangulate.ensures.words c.triangulate.auto.part
+          (omega (arith, c.requires.room)));
+    }

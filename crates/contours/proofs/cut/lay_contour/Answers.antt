@@ -1,6 +1,5 @@
 use lib.ListN.{length-set}
 use native.Mathlib.Omega.{arith}
-use Prim.Native.Nat.{◌-◌}
 use Rattle.mem.specs.Packed.{laid_none}
 use Rattle.contours.proofs.Cuts.{lay_more, lay_all}
 use Rattle.contours.proofs.cut.lay_contour.Goals as goal

@@ -1,6 +1,5 @@
 use Prim.Native.Nat.{◌^◌, ◌<◌}
 use mathlib.Core.Path.{◌∙◌}
-use Prim.Native.Nat.{◌-◌}
 use lib.ListN.{length}
 use native.Mathlib.Omega.{arith}
 use Rattle.contours.proofs.Gathers.{few_contours, going_begin, going_lists, going_ready, going_first, going_more, going_stuck, going_end}
@@ -23,7 +22,8 @@ shape_of-work-in-NoEar c = c.fill.auto.work ∙ c.add_next.auto.work ∙ c.loop-
 
 pub returns-in-NoEar : goal.returns-in-NoEar
 returns-in-NoEar c =
-    let both = going_stuck c.requires c.loop-c.invariant c.loop-c-test.true c.contour_at-k.ensures (rw c.in-NoEar.is at c.add_next.ensures.answer) c.add_next.ensures.words c.fill.ensures in
+    let both = going_stuck c.requires c.loop-c.invariant c.loop-c-test.true c.contour_at-k.ensures (rw c.in-NoEar.is at c.add_next.ensures.answer)
+    c.add_next.ensures.words c.fill.ensures in
     record { answer = both.0; words = both.1 }
 
 pub overflow_add-first : goal.overflow_add-first

@@ -4,11 +4,19 @@ use Rattle.contours.proofs.Gathers.{skipped_answer, skipped_words, cut_answer, c
 use Rattle.contours.proofs.gather.add_next.Goals as goal
 
 pub returns-then-c-lt-LEAST_VERTICES : goal.returns-then-c-lt-LEAST_VERTICES
-returns-then-c-lt-LEAST_VERTICES c = record { answer = skipped_answer c.requires c.if-c-lt-LEAST_VERTICES.true; words = skipped_words c.requires c.if-c-lt-LEAST_VERTICES.true }
+returns-then-c-lt-LEAST_VERTICES c = record {
+  answer = skipped_answer c.requires c.if-c-lt-LEAST_VERTICES.true;
+  words = skipped_words c.requires c.if-c-lt-LEAST_VERTICES.true;
+}
 
 pub add_contour-requires : goal.add_contour-requires
 add_contour-requires c = c.requires.ready c.if-c-lt-LEAST_VERTICES.false
 
 pub returns : goal.returns
 returns c =
-    let m = mesh_at c.args.work.now c.args.g c.args.nv c.args.np in record { answer = cut_answer c.args.nvp c.args.numbers.now c.args.c m c.if-c-lt-LEAST_VERTICES.false c.add_contour.ensures.answer; words = cut_words_lem c.args.nvp c.args.numbers.now c.args.c m c.if-c-lt-LEAST_VERTICES.false c.args.g c.args.work.now c.add_contour.ensures.words }
+    let m = mesh_at c.args.work.now c.args.g c.args.nv c.args.np in
+    record {
+      answer = cut_answer c.args.nvp c.args.numbers.now c.args.c m c.if-c-lt-LEAST_VERTICES.false c.add_contour.ensures.answer;
+      words = cut_words_lem c.args.nvp c.args.numbers.now c.args.c m c.if-c-lt-LEAST_VERTICES.false c.args.g c.args.work.now
+          c.add_contour.ensures.words;
+    }

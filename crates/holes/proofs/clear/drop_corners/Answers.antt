@@ -1,7 +1,6 @@
-use Prim.Native.Nat.{◌+◌, ◌-◌, ◌<◌}
+use Prim.Native.Nat.{◌+◌, ◌<◌}
 use lib.ListN.{length}
 use Rattle.mem.specs.Tab.{filled_none}
-use Rattle.rules.specs.Removal.{dropped}
 use Rattle.holes.proofs.Clears.{corner_fits, corner_more, corners_all}
 use borrow.Author.Rules.{rules}
 use Rattle.holes.proofs.clear.drop_corners.Goals as goal

@@ -1,4 +1,3 @@
-use Prim.Native.Nat.{◌-◌}
 use Rattle.mem.specs.Packed.{laid_none}
 use Rattle.holes.proofs.Clears.{dropping_stands, dropping_more, dropping_all}
 use borrow.Author.Rules.{rules}

@@ -1,4 +1,3 @@
-use Prim.Native.Nat.{◌-◌}
 use Rattle.holes.proofs.Clears.{taking_begin, taking_fits, taking_small, taking_ready, taking_pass, taking_out, taking_end}
 use Rattle.holes.proofs.clear.take_out.Goals as goal
 

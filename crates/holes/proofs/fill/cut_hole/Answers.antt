@@ -23,6 +23,10 @@ returns c =
     let x = c.lay_points.new.work in
     let e : po + (m * 6 - 6) - po ≡ m * 6 - 6 = omega arith in
     let l : length x ≡ length c.args.work.now = c.lay_points.auto.work in
-    let p = cut_places c.requires c.lay_points.ensures in record { answer = c.triangulate.ensures.answer ∙ ap (λ (k : ℕ). answer_of (triangulate (points_of m (view x po k)))) e ∙ rw p; words = cut_words_lem c.requires c.lay_points.ensures
-          (lent_part (λ (t : List ℕ). cut_in m t (triangulate (points_of m t))) x c.triangulate.new.part po (m * 6 - 6) _ e c.triangulate.ensures.words c.triangulate.auto.part
-          (omega (arith, c.requires.room))) }
+    let p = cut_places c.requires c.lay_points.ensures in record {
+      answer = c.triangulate.ensures.answer ∙ ap (λ (k : ℕ). answer_of (triangulate (points_of m (view x po k)))) e ∙ rw p;
+      words = cut_words_lem c.requires c.lay_points.ensures
+          (lent_part (λ (t : List ℕ). cut_in m t (triangulate (points_of m t))) x c.triangulate.new.part po (m * 6 - 6) _ e
+          c.triangulate.ensures.words c.triangulate.auto.part
+          (omega (arith, c.requires.room)));
+    }

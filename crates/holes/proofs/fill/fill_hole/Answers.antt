@@ -17,7 +17,10 @@ pub returns-in-Done : goal.returns-in-Done
 returns-in-Done c =
     let h = c.cut_hole in
     let x = was_done _ _ (rw c.in-Done.is at h.ensures.answer) in
-    let g = c.mesh_hole-n.ensures in record { answer = fill_answer c.requires h.ensures.words x.ts x.is x.count g.meshed; words = fill_over c.requires h.ensures.words x.ts x.is x.count g.meshed g.is c.fill.ensures }
+    let g = c.mesh_hole-n.ensures in record {
+      answer = fill_answer c.requires h.ensures.words x.ts x.is x.count g.meshed;
+      words = fill_over c.requires h.ensures.words x.ts x.is x.count g.meshed g.is c.fill.ensures;
+    }
 
 -- src/fill.rt:165:13
 pub returns-in-Stuck : goal.returns-in-Stuck

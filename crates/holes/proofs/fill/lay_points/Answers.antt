@@ -1,6 +1,5 @@
 use lib.ListN.{length-set}
 use native.Mathlib.Omega.{arith}
-use Prim.Native.Nat.{◌-◌}
 use Rattle.mem.specs.Packed.{laid_none}
 use Rattle.holes.proofs.Fills.{lay_placed, lay_named, lay_more, lay_all}
 use Rattle.holes.proofs.fill.lay_points.Goals as goal

@@ -1,5 +1,4 @@
 use native.Mathlib.Omega.{arith}
-use Prim.Native.Nat.{◌-◌}
 use mathlib.Core.Path.{refl}
 use Rattle.mem.specs.Packed.{laid_none}
 use Rattle.holes.proofs.Fills.{first_within, second_within, third_within, shape_more, shape_fits, shape_all}

@@ -1,4 +1,4 @@
-use Prim.Native.Nat.{◌-◌, ◌<◌}
+use Prim.Native.Nat.{◌<◌}
 use native.Mathlib.Omega.{arith}
 use mathlib.Core.Path.{ap, ◌∙◌}
 use borrow.Author.Rules.{rules}
@@ -20,7 +20,11 @@ loop-i-preserved c =
     let h : at.i < length g.s.now = omega arith in (
       search rules,
       elim c.if-s-i.branch [ then-s-i w ↦ omega arith | else-s-i w ↦ omega arith ],
-      elim c.if-s-i.branch [ then-s-i w ↦ omega (arith, count_hit g.v g.s.now at.i h (search rules)) | else-s-i w ↦ omega (arith, count_miss g.v g.s.now at.i h (search rules)) ],
+      elim c.if-s-i.branch [
+        | then-s-i w ↦ omega (arith, count_hit g.v g.s.now at.i h (search rules))
+        | else-s-i w ↦ omega
+            (arith, count_miss g.v g.s.now at.i h (search rules))
+      ],
     )
 
 pub returns : goal.returns

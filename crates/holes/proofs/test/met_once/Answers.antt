@@ -1,4 +1,4 @@
-use Prim.Native.Nat.{◌+◌, ◌-◌, ◌<◌}
+use Prim.Native.Nat.{◌+◌, ◌<◌}
 use native.Mathlib.Omega.{arith}
 use borrow.Author.Rules.{rules}
 use lib.ListN.{length}
@@ -20,7 +20,11 @@ loop-i-preserved c =
     let h : at.i < length s = omega arith in (
       search rules,
       elim c.if-count_in-eq1.branch [ then-count_in-eq1 w ↦ omega arith | else-count_in-eq1 w ↦ omega arith ],
-      elim c.if-count_in-eq1.branch [ then-count_in-eq1 w ↦ omega (arith, at.invariant.2, once_hit s at.i h (search rules)) | else-count_in-eq1 w ↦ omega (arith, at.invariant.2, once_miss s at.i h (search rules)) ],
+      elim c.if-count_in-eq1.branch [
+        | then-count_in-eq1 w ↦ omega (arith, at.invariant.2, once_hit s at.i h (search rules))
+        | else-count_in-eq1
+            w ↦ omega (arith, at.invariant.2, once_miss s at.i h (search rules))
+      ],
     )
 
 pub returns : goal.returns

@@ -1,4 +1,4 @@
-use Prim.Native.Nat.{◌+◌, ◌-◌, ◌≤◌}
+use Prim.Native.Nat.{◌+◌, ◌≤◌}
 use native.Mathlib.Omega.{arith}
 use lib.ListN.{length}
 use Rattle.rules.specs.Removal.{neighbours_in}
@@ -24,14 +24,16 @@ returns-then-holds_in-gt1 c =
 pub push_neighbours-k-requires : goal.push_neighbours-k-requires
 push_neighbours-k-requires c =
     let room_at : let g = c.args in
-    g.q + c.loop-i.k + length (neighbours_in g.rem (corners_of c.load_at-p.result)) ≤ length c.loop-i.work = look_room c.requires _ c.loop-i.invariant (search rules) c.load_at-p.ensures c.holds_in.ensures
+    g.q + c.loop-i.k + length (neighbours_in g.rem (corners_of c.load_at-p.result)) ≤ length c.loop-i.work =
+    look_room c.requires _ c.loop-i.invariant (search rules) c.load_at-p.ensures c.holds_in.ensures
     (omega (arith, c.if-holds_in-gt1.false)) in
     (search rules, room_at)
 
 pub overflow_add-k : goal.overflow_add-k
 overflow_add-k c =
     let room_at : let g = c.args in
-    g.q + c.loop-i.k + length (neighbours_in g.rem (corners_of c.load_at-p.result)) ≤ length c.loop-i.work = look_room c.requires _ c.loop-i.invariant (search rules) c.load_at-p.ensures c.holds_in.ensures
+    g.q + c.loop-i.k + length (neighbours_in g.rem (corners_of c.load_at-p.result)) ≤ length c.loop-i.work =
+    look_room c.requires _ c.loop-i.invariant (search rules) c.load_at-p.ensures c.holds_in.ensures
     (omega (arith, c.if-holds_in-gt1.false)) in
     let r = room_at in search rules
 
@@ -39,7 +41,12 @@ pub loop-i-preserved : goal.loop-i-preserved
 loop-i-preserved c =
     let r = c.requires in
     let l = c.loop-i.invariant in
-    elim c.if-is_held.branch [ then-is_held+else-holds_in-gt1 w ↦ rw (w.work-is, w.k-is) (look_more r _ l (search rules) w.load_at-p.ensures w.holds_in.ensures (omega (arith, w.if-holds_in-gt1.false)) w.push_neighbours-k.ensures) | else-is_held w ↦ rw (w.work-is, w.k-is) (look_past r _ l (search rules) c.is_held.ensures w.if-is_held.false) ]
+    elim c.if-is_held.branch [
+      | then-is_held+else-holds_in-gt1 w ↦ rw (w.work-is, w.k-is) (look_more r _ l (search rules) w.load_at-p.ensures
+          w.holds_in.ensures (omega (arith, w.if-holds_in-gt1.false)) w.push_neighbours-k.ensures)
+      | else-is_held w ↦ rw (w.work-is, w.k-is)
+          (look_past r _ l (search rules) c.is_held.ensures w.if-is_held.false)
+    ]
 
 pub returns : goal.returns
 returns c = look_end c.requires _ c.loop-i.invariant (search rules)

@@ -15,5 +15,6 @@ returns c =
     let m = (c.args.nv - c.args.i) * vertex_size in
     let e : c.args.vo + c.args.nv * vertex_size - a ≡ m = omega (arith, c.requires.1) in
     record_gone c.args.i c.requires.0 c.requires.1
-    (lent_part (λ (l : List ℕ). drop vertex_size l ++ replicate vertex_size 0) c.args.work.now c.drop_first.new.part a m _ e c.drop_first.ensures c.drop_first.auto.part
+    (lent_part (λ (l : List ℕ). drop vertex_size l ++ replicate vertex_size 0) c.args.work.now c.drop_first.new.part a m _ e c.drop_first.ensures
+    c.drop_first.auto.part
     (omega (arith, c.requires.0.fits, c.requires.1)))

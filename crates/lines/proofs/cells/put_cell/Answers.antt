@@ -1,7 +1,8 @@
 -- `lines::cells::put_cell` meets its contract: the tab, and the number behind it. Assumes nothing.
 use native.Mathlib.Omega.{arith}
-use Rattle.rules.specs.Lines.{decimal, cell}
-use Rattle.lines.specs.Printing.{printed_one, printed_then, printed_same_length, room_then}
+use lib.ListN.{length-set}
+use Rattle.rules.specs.Lines.{cell}
+use Rattle.lines.specs.Printing.{printed_one, printed_then, printed_same_length}
 use Rattle.lines.proofs.cells.put_cell.Goals as goal
 
 pub bounds-out-at : goal.bounds-out-at
@@ -10,7 +11,7 @@ bounds-out-at c = omega arith
 
 pub put_decimal-requires : goal.put_decimal-requires
 unfolding cell
-put_decimal-requires c = room_then (printed_one c.args.out.now _ 9) (decimal c.args.n) c.requires
+put_decimal-requires c = omega (arith, length-set c.args.out.now c.args.at 9, c.requires)
 
 pub returns : goal.returns
 unfolding cell

@@ -1,4 +1,3 @@
-use Prim.Native.Nat.{◌-◌}
 use native.Mathlib.Omega.{arith}
 use Rattle.rules.specs.Lines.{cell}
 use Rattle.lines.specs.Pieces.{pieces_none, pieces_room, pieces_more, pieces_all, packed_over}

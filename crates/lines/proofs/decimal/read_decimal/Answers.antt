@@ -1,7 +1,7 @@
 use mathlib.Core.Path.{sym}
-use Prim.Native.Nat.{◌-◌}
 use native.Mathlib.Omega.{arith}
-use Rattle.lines.proofs.Decimals.{no_digits, leading_zero, reading_zero, reading_begin, below_digits, above_digits, reading_other, reading_large, reading_next, reading_below, reading_value}
+use Rattle.lines.proofs.Decimals.{no_digits, leading_zero, reading_zero, reading_begin, below_digits, above_digits, reading_other, reading_large}
+use Rattle.lines.proofs.Decimals.{reading_next, reading_below, reading_value}
 use Rattle.lines.proofs.decimal.read_decimal.Goals as goal
 use Rattle.lines.proofs.decimal.read_decimal.Goals.{then-cell-eq48+else-cell-gt1, else-cell-eq48}
 
@@ -14,7 +14,10 @@ returns-then-cell-gt1 c = sym (leading_zero c.args.least c.args.most c.args.cell
 pub loop-i-init : goal.loop-i-init
 loop-i-init c =
     let a = c.args in
-    elim c.if-cell-eq48.branch [ then-cell-eq48+else-cell-gt1 x ↦ reading_zero a.least a.most a.cell.now c.if-cell-eq0.false x.if-cell-gt1.false | else-cell-eq48 x ↦ reading_begin a.least a.most a.cell.now c.if-cell-eq0.false x.if-cell-eq48.false ]
+    elim c.if-cell-eq48.branch [
+      | then-cell-eq48+else-cell-gt1 x ↦ reading_zero a.least a.most a.cell.now c.if-cell-eq0.false x.if-cell-gt1.false
+      | else-cell-eq48 x ↦ reading_begin a.least a.most a.cell.now c.if-cell-eq0.false x.if-cell-eq48.false
+    ]
 
 pub returns-then-cell-i-lt48 : goal.returns-then-cell-i-lt48
 returns-then-cell-i-lt48 c = sym (reading_other c.loop-i.invariant c.loop-i-test.true (below_digits _ c.if-cell-i-lt48.true))

@@ -1,9 +1,8 @@
 -- `lines::digits::put_signed` meets its contract: a number below zero is the sign and then its magnitude, which the code has without leaving 64 bits. Assumes nothing.
 use mathlib.Core.Path.{refl, sym}
-use Prim.Native.Nat.{◌+◌}
 use native.Mathlib.Omega.{arith}
-use Rattle.rules.specs.Lines.{decimal}
-use Rattle.lines.specs.Printing.{printed_one, printed_as, printed_then, printed_same_length, room_then}
+use lib.ListN.{length-set}
+use Rattle.lines.specs.Printing.{printed_one, printed_as, printed_then, printed_same_length}
 use Rattle.lines.proofs.Signs.{below, not_below}
 use borrow.Author.Rules.{rules}
 use Rattle.lines.proofs.digits.put_signed.Goals as goal
@@ -24,10 +23,14 @@ pub overflow_add-z-then-z-lt0 : goal.overflow_add-z-then-z-lt0
 overflow_add-z-then-z-lt0 c = let l = (below c.ranges.z refl c.if-z-lt0.true) in rw l.reads (search rules)
 
 pub put_decimal-requires : goal.put_decimal-requires
-put_decimal-requires c = let l = (below c.ranges.z refl c.if-z-lt0.true) in rw l.reads (room_then (printed_one c.args.out.now _ 45) (decimal (l.k + 1)) (rw l.text at c.requires))
+put_decimal-requires c =
+    let l = (below c.ranges.z refl c.if-z-lt0.true) in
+    let r = rw l.text at c.requires in
+    rw l.reads (omega (arith, length-set c.args.out.now c.args.at 45, r))
 
 pub returns-then-z-lt0 : goal.returns-then-z-lt0
-returns-then-z-lt0 c = let l = (below c.ranges.z refl c.if-z-lt0.true) in printed_as (printed_then (printed_one _ _ 45) (rw l.reads at c.put_decimal.ensures)) (sym l.text)
+returns-then-z-lt0 c = let l = (below c.ranges.z refl c.if-z-lt0.true) in
+    printed_as (printed_then (printed_one _ _ 45) (rw l.reads at c.put_decimal.ensures)) (sym l.text)
 
 pub shape_of-out-then-z-lt0 : goal.shape_of-out-then-z-lt0
 shape_of-out-then-z-lt0 c = printed_same_length (returns-then-z-lt0 c)

@@ -1,4 +1,3 @@
-use Prim.Native.Nat.{◌-◌}
 use borrow.Author.Rules.{rules}
 use Rattle.lines.proofs.Scanning.{seek_begin, seek_next, seek_hit, seek_end}
 use Rattle.lines.proofs.scan.find.Goals as goal

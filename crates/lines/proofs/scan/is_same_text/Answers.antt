@@ -1,5 +1,4 @@
 use mathlib.Core.Path.{sym}
-use Prim.Native.Nat.{◌-◌}
 use native.Mathlib.Omega.{arith}
 use Rattle.lines.proofs.Scanning.{alike_begin, unlike_long, alike_next, unlike_here, alike_end}
 use Rattle.lines.proofs.scan.is_same_text.Goals as goal

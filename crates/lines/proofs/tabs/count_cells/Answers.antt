@@ -1,4 +1,3 @@
-use Prim.Native.Nat.{◌-◌}
 use Rattle.lines.proofs.Counting.{counting_begin, counting_next, counting_end}
 use Rattle.lines.proofs.tabs.count_cells.Goals as goal
 

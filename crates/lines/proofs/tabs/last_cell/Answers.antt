@@ -1,4 +1,3 @@
-use Prim.Native.Nat.{◌-◌}
 use Rattle.lines.proofs.Counting.{passing_begin, passing_next, passing_end}
 use Rattle.lines.proofs.tabs.last_cell.Goals as goal
 

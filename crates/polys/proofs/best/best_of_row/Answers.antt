@@ -1,4 +1,3 @@
-use Prim.Native.Nat.{◌-◌}
 use Rattle.records.specs.Polygons.{length_polygons}
 use Rattle.polys.proofs.Greatest.{row_begin, row_more, row_end}
 use Rattle.polys.proofs.best.best_of_row.Goals as goal

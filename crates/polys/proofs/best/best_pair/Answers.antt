@@ -1,4 +1,3 @@
-use Prim.Native.Nat.{◌-◌}
 use borrow.Author.Rules.{rules}
 use Rattle.mem.specs.Loops.{doing_more, doing_end}
 use Rattle.records.specs.Polygons.{length_polygons}

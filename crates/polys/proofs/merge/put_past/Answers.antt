@@ -1,4 +1,3 @@
-use Prim.Native.Nat.{◌-◌}
 use borrow.Author.Rules.{rules}
 use Rattle.mem.specs.Tab.{filled_none, filled_more}
 use Rattle.polys.proofs.Joins.{round_below, round_fits, past_at, past_put}

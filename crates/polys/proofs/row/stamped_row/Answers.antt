@@ -1,4 +1,3 @@
-use Prim.Native.Nat.{◌-◌}
 use Rattle.records.specs.Polygons.{length_polygons}
 use Rattle.polys.proofs.Greatest.{row_begin, row_more, row_end_none}
 use Rattle.polys.proofs.row.stamped_row.Goals as goal

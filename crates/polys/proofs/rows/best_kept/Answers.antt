@@ -1,6 +1,5 @@
 use mathlib.Core.Path.{◌∙◌}
 use native.Mathlib.Omega.{arith}
-use Prim.Native.Nat.{◌-◌}
 use Rattle.mem.specs.Loops.{doing_more, doing_end}
 use Rattle.records.specs.Polygons.{length_polygons}
 use Rattle.polys.proofs.Greatest.{rows_begin}

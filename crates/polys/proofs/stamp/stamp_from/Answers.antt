@@ -1,5 +1,4 @@
 use mathlib.Core.Path.{refl, ap, ◌∙◌}
-use Prim.Native.Nat.{◌-◌}
 use lib.Bits.{bit_or}
 use Rattle.mem.specs.Loops.{doing_more, doing_end}
 use Rattle.laws.specs.Stamps.{stamp_bit, stamp_with, stamp_of}

@@ -1,5 +1,4 @@
 use Rattle.removals.specs.Standing.{stands_wider}
-use Prim.Native.Nat.{◌-◌}
 use Rattle.removals.proofs.Tries.{left_none, left_all, left_stays, may_go, left_gone, left_stuck}
 use Rattle.removals.proofs.all.remove_all.Goals as goal
 

@@ -1,4 +1,3 @@
-use Prim.Native.Nat.{◌-◌}
 use Rattle.stored.proofs.Counting.{counting_none, counting_more, counted_there, counted_all}
 use Rattle.stored.proofs.corners.count_corners.Goals as goal
 

@@ -1,4 +1,3 @@
-use Prim.Native.Nat.{◌-◌}
 use Rattle.records.specs.Corners.{stands_at}
 use Rattle.trails.proofs.Given.{unmet_none, unmet_more, held_one, held_none}
 use borrow.Author.Rules.{rules}

@@ -1,4 +1,3 @@
-use Prim.Native.Nat.{◌-◌}
 use borrow.Author.Rules.{rules}
 use Rattle.trails.proofs.Given.{giving_none, giving_room, giving_more, giving_end}
 use Rattle.trails.proofs.sides.push_sides.Goals as goal

@@ -1,4 +1,3 @@
-use Prim.Native.Nat.{◌-◌}
 use borrow.Author.Rules.{rules}
 use Rattle.trails.proofs.Passes.{going_none, going_more, going_less, going_end, pass_over}
 use Rattle.trails.proofs.walk.walk_once.Goals as goal

@@ -1,4 +1,4 @@
-use Rattle.std.proofs.Common.{◌-◌, refl}
+use Rattle.std.proofs.Common.{refl}
 use Rattle.weld.proofs.Contours.{going_begin, going_now, going_room, going_more, going_end}
 use Rattle.weld.proofs.contour.weld_contour.Goals as goal
 
@@ -8,11 +8,10 @@ loop-i-init c = going_begin c.args.height c.args.work.now c.args.numbers.now c.a
 
 -- src/contour.rt:56:13
 pub weld_vertex-k-requires : goal.weld_vertex-k-requires
-weld_vertex-k-requires c =
-    (
-      going_now c.args.height c.args.work.now c.args.numbers.now c.args.t c.args.nv c.args.ko c.args.first c.args.n c.requires c.loop-i.invariant,
-      going_room c.args.height c.args.work.now c.args.numbers.now c.args.t c.args.nv c.args.ko c.args.first c.args.n c.requires c.loop-i.invariant c.loop-i-test.true,
-    )
+weld_vertex-k-requires c = (
+  going_now c.args.height c.args.work.now c.args.numbers.now c.args.t c.args.nv c.args.ko c.args.first c.args.n c.requires c.loop-i.invariant,
+  going_room c.args.height c.args.work.now c.args.numbers.now c.args.t c.args.nv c.args.ko c.args.first c.args.n c.requires c.loop-i.invariant c.loop-i-test.true,
+)
 
 -- src/contour.rt:53:5
 pub loop-i-preserved : goal.loop-i-preserved

@@ -1,4 +1,4 @@
-use Rattle.std.proofs.Common.{◌-◌, sym, refl, ◌∙◌, arith, rules}
+use Rattle.std.proofs.Common.{sym, refl, ◌∙◌, arith, rules}
 use Rattle.records.specs.Layout.{vertices_at}
 use Rattle.weld.proofs.Walks.{agreed_none, agreed_more, walk_first, walk_none, step_fits, step_link, step_less, step_on, step_found}
 use Rattle.weld.proofs.find.find_vertex.Goals as goal
@@ -39,12 +39,11 @@ search-smaller c =
 
 -- src/find.rt:59:5
 pub search-preserved : goal.search-preserved
-search-preserved c =
-    (
-      step_on c.args.work.now c.args.t c.args.nv c.requires c.args.height c.args.v c.search.invariant.0 c.search-test.true
-          c.loop-c.invariant.0 c.link_at-link-in-search.ensures c.loop-c-test.true (sym c.agrees.ensures ∙ c.if-agrees.false),
-      c.search.invariant.1,
-    )
+search-preserved c = (
+  step_on c.args.work.now c.args.t c.args.nv c.requires c.args.height c.args.v c.search.invariant.0 c.search-test.true
+      c.loop-c.invariant.0 c.link_at-link-in-search.ensures c.loop-c-test.true (sym c.agrees.ensures ∙ c.if-agrees.false),
+  c.search.invariant.1,
+)
 
 -- src/find.rt:53:1
 pub returns-after-search : goal.returns-after-search
