@@ -14,7 +14,7 @@ use Rattle.mem.specs.Slice.{splice, length_splice, take_splice_end}
 use Rattle.mem.specs.Loops.{run, over, over_cong}
 use Rattle.rules.specs.Lines.{Line, lines_of, Numbers, numbers, malformed}
 use Rattle.rules.specs.Job.{job_stride, sum_over, count_all}
-use Rattle.rules.specs.Sheet.{number_most, code_most, heading_lines, contour_name, v_name, Sheet, Read, taken, bad, need, too_many, with_contour, with_vertex, contour_numbers, vertex_numbers, read_body}
+use Rattle.rules.specs.Sheet.{number_most, code_most, heading_lines, contour_name, v_name, Sheet, Read, bad, need, too_many, with_contour, with_vertex, contour_numbers, vertex_numbers, read_body}
 use Rattle.lines.specs.Read.{line_end, numbers_at}
 use Rattle.lines.specs.Taken.{line_some, line_missing, limited}
 use Rattle.lines.specs.Taken as lines

@@ -9,7 +9,7 @@ use lib.ListN.{length, get_or, set}
 use borrow.Author.Tests.{ltb-false}
 use Rattle.ints.specs.Bools.{or_left, or_right}
 use Rattle.mem.specs.Slice.{splice, stored_each, set_each}
-use Rattle.rules.specs.Lines.{numbers, malformed}
+use Rattle.rules.specs.Lines.{malformed}
 use Rattle.rules.specs.Job.{job_stride}
 use Rattle.rules.specs.Sheet.{contour_name, v_name, number_most, code_most, contours_most, declared_most}
 use Rattle.lines.specs.declared.line.LineRead.{LineRead}

@@ -1,4 +1,3 @@
-use Prim.Native.Nat.{◌-◌}
 use native.Mathlib.Omega.{arith}
 use Rattle.mem.specs.Packed.{laid_none}
 use Rattle.outputs.proofs.Words.{corners_short, row_ready}

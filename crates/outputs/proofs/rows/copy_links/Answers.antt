@@ -1,4 +1,3 @@
-use Prim.Native.Nat.{◌-◌}
 use native.Mathlib.Omega.{arith}
 use Rattle.mem.specs.Packed.{laid_none}
 use Rattle.outputs.proofs.Copies.{links_fit, link_copied, links_copied}

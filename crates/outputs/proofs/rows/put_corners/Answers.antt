@@ -1,6 +1,5 @@
 use mathlib.Core.Path.{◌≡◌, refl, ap, ◌∙◌}
 use native.Mathlib.Omega.{arith}
-use Prim.Native.Nat.{◌-◌}
 use lib.ListN.{length}
 use Rattle.mem.specs.Slice.{splice}
 use Rattle.mem.specs.Tab.{filled_none, filled_more, filled_all, tab_take}

@@ -1,5 +1,4 @@
 use mathlib.Core.Path.{refl, ap, ◌∙◌}
-use Prim.Native.Nat.{◌-◌}
 use native.Mathlib.Omega.{arith}
 use Rattle.mem.specs.Slice.{splice}
 use Rattle.mem.specs.Tab.{filled_none, filled_more, filled_all, tab_const}

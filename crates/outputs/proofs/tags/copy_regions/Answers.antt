@@ -1,6 +1,5 @@
 use mathlib.Core.Path.{ap, ◌∙◌}
 use native.Mathlib.Omega.{arith}
-use Prim.Native.Nat.{◌-◌}
 use Rattle.mem.specs.Slice.{splice}
 use Rattle.mem.specs.Tab.{filled_none, filled_more, filled_all}
 use Rattle.outputs.proofs.Words.{region_is, region_narrow, each_polygon}

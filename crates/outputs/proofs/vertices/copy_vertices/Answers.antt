@@ -1,5 +1,4 @@
 use native.Mathlib.Omega.{arith}
-use Prim.Native.Nat.{◌-◌}
 use lib.ListN.{length-set}
 use Rattle.mem.specs.Packed.{laid_none}
 use Rattle.outputs.proofs.Words.{vertex_narrow}

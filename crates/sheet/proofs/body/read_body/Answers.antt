@@ -1,4 +1,3 @@
-use Prim.Native.Nat.{◌-◌}
 use native.Mathlib.Omega.{arith}
 use Rattle.sheet.proofs.Bodies.{going_begin, going_ready, going_next, going_refused, going_due, going_end}
 use Rattle.sheet.proofs.body.read_body.Goals as goal

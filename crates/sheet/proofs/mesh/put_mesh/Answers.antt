@@ -34,12 +34,12 @@ put_polygons-requires c =
     (mesh_line_of c.args.k c.args.n (to_z w64 (of_z w64 c.mesh_area-area.result)) ∷ (vertex_rows c.args.vertices.now c.args.k ∷ (polygon_rows c.args.nvp c.args.n c.args.polygons.now c.args.neighbours.now c.args.regions.now c.args.codes.now ∷ [])))
     c.args.out.now c.args.at = mesh_going c.requires (to_z w64 (of_z w64 c.mesh_area-area.result)) (area_bits (record { sfits = c.mesh_area-area.type_inv }) c.mesh_area-area.ensures) in
     record {
-  polygons = c.requires.stands.ready.polygons;
-  links = c.requires.stands.links;
-  regions = c.requires.stands.regions;
-  codes = c.requires.stands.codes;
-  room = going_room (going_more (going_more (begun) c.put_mesh_line-a.ensures) c.put_vertices-b.ensures);
-}
+      polygons = c.requires.stands.ready.polygons;
+      links = c.requires.stands.links;
+      regions = c.requires.stands.regions;
+      codes = c.requires.stands.codes;
+      room = going_room (going_more (going_more (begun) c.put_mesh_line-a.ensures) c.put_vertices-b.ensures);
+    }
 
 pub returns : goal.returns
 returns c =
