@@ -1,5 +1,4 @@
 use mathlib.Core.Path.{refl}
-use Prim.Native.Nat.{◌-◌}
 use native.Mathlib.Omega.{arith}
 use Rattle.mem.specs.Tab.{filled_none, filled_more}
 use Rattle.checksheet.proofs.Padded.{padded_put}

@@ -1,4 +1,3 @@
-use Prim.Native.Nat.{◌-◌}
 use Rattle.checksheet.proofs.PlaceLines.{placing_begin, placing_ready, placing_next, placing_stop, placing_end}
 use Rattle.checksheet.proofs.places.read_places.Goals as goal
 

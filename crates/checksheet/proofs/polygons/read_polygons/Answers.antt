@@ -1,4 +1,3 @@
-use Prim.Native.Nat.{◌-◌}
 use Rattle.checksheet.proofs.PolygonLines.{going_begin, going_ready, going_next, going_stop, going_end}
 use Rattle.checksheet.proofs.polygons.read_polygons.Goals as goal
 

@@ -1,4 +1,3 @@
-use Prim.Native.Nat.{◌-◌}
 use native.Mathlib.Omega.{arith}
 use Rattle.mendsheet.proofs.Above.{passed_none, passed_all_lem, passed_found, passed_more}
 use Rattle.mendsheet.proofs.lost.contours_above.Goals as goal

@@ -1,5 +1,4 @@
 use mathlib.Core.Path.{refl}
-use Prim.Native.Nat.{◌-◌}
 use Rattle.lines.specs.Pieces.{pieces_none, pieces_room, pieces_more, pieces_all}
 use Rattle.mendsheet.specs.Print.{lost_text_of}
 use Rattle.mendsheet.proofs.lost.put_lost.Goals as goal
