@@ -1,6 +1,7 @@
 -- All vertices of a contour: after i of them the buffer is the one at the start with the tables and numbers of R3's state after i, written in their places.
 -- Assumes nothing.
-use Rattle.std.proofs.Common.{◌≡◌, ℕ, ◌+◌, ◌<◌, ◌≤◌, Bool, true, false, cond, eqb, List, [], ◌∷◌, ◌++◌, length, set, sym, refl, ap, ◌∙◌, arith, length-append, length-set}
+use Rattle.std.proofs.Common.{◌≡◌, ℕ, ◌+◌, ◌<◌, ◌≤◌, Bool, true, false, cond, eqb, List, [], ◌∷◌, ◌++◌, length, set, sym, refl, ap, ◌∙◌, arith}
+use Rattle.std.proofs.Common.{length-append, length-set}
 use Rattle.mem.specs.Slice.{view, splice, splice_nil, view_same, length_splice, write_step}
 use Rattle.mem.specs.Tab.{get_or_tab}
 use Rattle.mem.specs.Loops.{each, each_turn, each_end}
@@ -13,7 +14,8 @@ use Rattle.records.specs.Layout.{vertices_at, marks_at}
 use Rattle.records.specs.Vertices.{length_vertices}
 use Rattle.weld.specs.declared.find.Tables.{Tables}
 use Rattle.weld.specs.Tables.{tabled, welded_words, Room, Tabled, standing, grown, WeldedOne, WeldReady, weld_of, WeldedTo}
-use Rattle.weld.specs.Standing.{Holds, holds_of, holds_past, even_now, same_room, less_room, length_tabled, vertices_now, marks_now, standing_now, tabled_again, tabled_past}
+use Rattle.weld.specs.Standing.{Holds, holds_of, holds_past, even_now, same_room, less_room, length_tabled, vertices_now, marks_now, standing_now}
+use Rattle.weld.specs.Standing.{tabled_again, tabled_past}
 
 grown_most : (m k : ℕ) → grown m k ≤ m + 1
 unfolding grown
@@ -143,7 +145,8 @@ module _ (height : ℕ) (w₀ ns : List ℕ) (t : Tables) (nv ko first n : ℕ) 
     unfolding welded_words
     going_end h =
         let e : i ≡ n = omega (arith, g.within) in
-        let d : weld_of height w₀ ns t nv first n ≡ g.s = g.same ∙ each_end (weld_one height (contour_vertices ns first n) (contour_flags ns first n)) i n g.s h in
+        let d : weld_of height w₀ ns t nv first n ≡ g.s = g.same ∙ each_end (weld_one height (contour_vertices ns first n) (contour_flags ns first n))
+        i n g.s h in
         let x = tabled w₀ t g.s.vertices g.s.marks in
         record {
           count = rw d (sym g.count);

@@ -1,6 +1,7 @@
 -- One vertex in the tables: what a new one makes of the words, what a mark does, and that both together are R3 for one vertex. Each write is the rewriting
 -- of one table. Assumes nothing.
-use Rattle.std.proofs.Common.{◌≡◌, ℕ, ◌+◌, ◌*◌, ◌<◌, ◌≤◌, true, false, eqb, ◌≢◌, List, [], ◌∷◌, ◌++◌, length, get_or, set, sym, refl, ap, ◌∙◌, ⊎_elim, le_refl, arith, length-append, eq-eqb, ne_eqb}
+use Rattle.std.proofs.Common.{◌≡◌, ℕ, ◌+◌, ◌*◌, ◌<◌, ◌≤◌, true, false, eqb, ◌≢◌, List, [], ◌∷◌, ◌++◌, length, get_or, set, sym, refl, ap, ◌∙◌, ⊎_elim}
+use Rattle.std.proofs.Common.{le_refl, arith, length-append, eq-eqb, ne_eqb}
 use lib.ListN.{get_or-append}
 use lib.Seq.{get_or_at}
 use Rattle.mem.specs.Slice.{view, splice, splice_view, splice_inside, set_part}
@@ -68,7 +69,8 @@ module _ (w : List ℕ) (t : Tables) (nv : ℕ) (s : Tabled w t nv) where
         let more : length (vs ++ (v ∷ [])) ≡ nv + 1 = length-append vs (v ∷ []) ∙ ap (λ (k : ℕ). k + 1) many in
         let words : vertex_records (vs ++ (v ∷ [])) (ms ++ (0 ∷ [])) ≡ R ++ vertex_words v 0 = records_snoc vs ms v 0 (even_now w t nv) in
         let put = chained_put w t.buckets bucket_count t.vertices R t.nexts (length vs) (key_of vs) (key_of (vs ++ (v ∷ []))) (vertex_words v 0) r.buckets
-        (omega (arith, r.vertices, five v 0)) (omega (arith, r.nexts, many)) key_old in_range (holds_now s).buckets (rw l (rw many at (holds_now s).vertices)) (holds_now s).nexts in
+        (omega (arith, r.vertices, five v 0)) (omega (arith, r.nexts, many)) key_old in_range (holds_now s).buckets
+        (rw l (rw many at (holds_now s).vertices)) (holds_now s).nexts in
         let made : y ≡ splice (set w (t.buckets + b) (nv + 1)) (t.vertices + nv * vertex_size) (vertex_words v 0) = ey ∙ rw (eh, en) refl in
         rw eh (ap (λ (x : List ℕ). set x (t.nexts + nv) (get_or w (t.buckets + b) 0)) made ∙ rw (more, words) (rw (l, key_new, many) at put))
 
@@ -88,11 +90,13 @@ module _ (w : List ℕ) (t : Tables) (nv : ℕ) (s : Tabled w t nv) where
     record_marked =
         let e : view w t.vertices (nv * vertex_size) ≡ vertex_records vs ms = rw many at (holds_now s).vertices in
         let a = t.vertices + k * vertex_size in
-        ap (splice w t.vertices) (sym (records_mark vs ms k 1 (even_now w t nv) (rw many h)) ∙ ap (λ (l : List ℕ). splice l (k * vertex_size) (vertex_words (get_or vs k no_vertex) 1)) (sym e))
+        ap (splice w t.vertices) (sym (records_mark vs ms k 1 (even_now w t nv) (rw many h)) ∙ ap (λ (l : List ℕ). splice l (k * vertex_size)
+        (vertex_words (get_or vs k no_vertex) 1)) (sym e))
         ∙ sym (splice_inside w t.vertices (k * vertex_size) (view w t.vertices (nv * vertex_size)) (vertex_words (get_or vs k no_vertex) 1)
         (rw (length_view w t.vertices (nv * vertex_size) fits) (omega (arith, room, five (get_or vs k no_vertex) 1))))
         ∙ ap (λ (l : List ℕ). splice l a (vertex_words (get_or vs k no_vertex) 1)) (splice_view w t.vertices (nv * vertex_size))
-        ∙ ap (splice w a) (anew (get_or vs k no_vertex) (get_or ms k 0) 1 ∙ ap (λ (l : List ℕ). set l mark_place 1) (sym (words_at w t.vertices nv vs ms many fits e k h)))
+        ∙ ap (splice w a) (anew (get_or vs k no_vertex) (get_or ms k 0) 1 ∙ ap (λ (l : List ℕ). set l mark_place 1)
+        (sym (words_at w t.vertices nv vs ms many fits e k h)))
         ∙ sym (set_part w a vertex_size mark_place 1 (omega arith) (omega (arith, room, fits)))
 
     pub mark_steps : set w (t.vertices + k * vertex_size + mark_place) 1 ≡ tabled w t (vertices_at w t.vertices nv) (set (marks_at w t.vertices nv) k 1)

@@ -1,6 +1,8 @@
 -- The weld's search: vertices that are the same are in one bucket, so that the first match on the walk along v's bucket, newest first, is the
 -- highest-numbered match of all; and the bucket as the code computes it. Assumes nothing.
-use Rattle.std.proofs.Common.{◌≡◌, ℕ, ◌+◌, ◌-◌, ◌*◌, ◌%◌, ◌^◌, ◌<◌, ◌≤◌, Bool, true, false, ◌&&◌, eqb, leb, ◌≢◌, List, length, get_or, sym, refl, ap, ◌∙◌, le_refl, lt_of_le_of_lt, add-zero, le_of_lt, mul-le-mul_left, mul-lt-mul_of_pos_right, arith, pow_pos, pow-add, ne_eqb, eqb-true}
+use Rattle.std.proofs.Common.{◌≡◌, ℕ, ◌+◌, ◌-◌, ◌*◌, ◌%◌, ◌^◌, ◌<◌, ◌≤◌, Bool, true, false, ◌&&◌, eqb, leb, ◌≢◌, List, length, get_or, sym, refl, ap}
+use Rattle.std.proofs.Common.{◌∙◌, le_refl, lt_of_le_of_lt, add-zero, le_of_lt, mul-le-mul_left, mul-lt-mul_of_pos_right, arith, pow_pos, pow-add}
+use Rattle.std.proofs.Common.{ne_eqb, eqb-true}
 use mathlib.Core.Path.{subst⁻¹}
 use lib.Bits.{bit_and, and_mask}
 use Rattle.ints.specs.Bools.{and_left, and_right}
@@ -113,7 +115,8 @@ module _ (w : List ℕ) (t : Tables) (nv : ℕ) (s : Tabled w t nv) where
         same = refl;
       }
 
-  pub walk_word : {k l : ℕ} → k < nv → l ≡ get_or w (t.nexts + k) 0 → l ≡ highest (key_of (vertices_at w t.vertices nv)) (key_of (vertices_at w t.vertices nv) k) k
+  pub walk_word : {k l : ℕ} → k < nv → l ≡ get_or w (t.nexts + k) 0 → l ≡ highest (key_of (vertices_at w t.vertices nv))
+      (key_of (vertices_at w t.vertices nv) k) k
   unfolding vs
   walk_word {k} h e =
       let n = length_vertices w t.vertices nv in
@@ -147,7 +150,8 @@ module _ (w : List ℕ) (t : Tables) (nv : ℕ) (s : Tabled w t nv) where
 
     pub step_less : {l : ℕ} → l ≡ get_or w (t.nexts + (link - 1)) 0 → l < link
     unfolding k
-    step_less e = walk_less (same_as height (vertices_at w t.vertices nv) v) _ _ (keyed height (vertices_at w t.vertices nv) v) nv r k named (walk_word step_in e)
+    step_less e = walk_less (same_as height (vertices_at w t.vertices nv) v) _ _ (keyed height (vertices_at w t.vertices nv) v) nv r k named
+        (walk_word step_in e)
 
     module _ {c : ℕ} (a : Agreed height (vertex_in (view w (t.vertices + (link - 1) * vertex_size) vertex_size)) v c) where
       pub step_on : {l : ℕ} → l ≡ get_or w (t.nexts + (link - 1)) 0 → c < 3

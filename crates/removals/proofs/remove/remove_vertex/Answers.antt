@@ -1,5 +1,6 @@
 -- `removals::remove::remove_vertex` meets its contract: the hole that is left is filled, or it has no ear. Assumes nothing.
-use Rattle.removals.proofs.Removes.{open_ready, least, most, at_fits, fill_ready, filled_few, tidy_ready, filled_answer, filled_words, empty_fits, empty_answer, empty_words}
+use Rattle.removals.proofs.Removes.{open_ready, least, most, at_fits, fill_ready, filled_few, tidy_ready, filled_answer, filled_words, empty_fits}
+use Rattle.removals.proofs.Removes.{empty_answer, empty_words}
 use borrow.Author.Rules.{rules}
 use Rattle.removals.proofs.remove.remove_vertex.Goals as goal
 

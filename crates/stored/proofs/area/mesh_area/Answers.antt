@@ -48,7 +48,9 @@ pub overflow_add-from-in-loop-i : goal.overflow_add-from-in-loop-i
 overflow_add-from-in-loop-i c =
     let inside : c.loop-i.i < c.args.n = omega (arith, c.loop-i-test.true) in
     let row_fits : (c.loop-i.i * (c.args.nvp)) + (c.args.nvp) ≤ length ((c.args.polygons.now)) = row_end c.requires c.loop-i.i (inside) in
-    let few : c.count_corners-c.result ≤ (c.args.nvp) = count_most ((c.args.polygons.now)) ((c.loop-i.i * (c.args.nvp))) ((c.args.nvp)) ((c.loop-i.i * (c.args.nvp)) + (c.args.nvp) - (c.loop-i.i * (c.args.nvp))) (c.count_corners-c.result) (omega arith) (row_fits) c.count_corners-c.ensures in
+    let few : c.count_corners-c.result ≤ (c.args.nvp) = count_most ((c.args.polygons.now)) ((c.loop-i.i * (c.args.nvp))) ((c.args.nvp))
+    ((c.loop-i.i * (c.args.nvp)) + (c.args.nvp) - (c.loop-i.i * (c.args.nvp))) (c.count_corners-c.result) (omega arith) (row_fits)
+    c.count_corners-c.ensures in
     record { fits = omega (arith, row_fits, few) }
 
 pub offset_bounds-polygons-from-in-loop-i : goal.offset_bounds-polygons-from-in-loop-i
@@ -61,14 +63,21 @@ pub slice_bounds-polygon_area-end : goal.slice_bounds-polygon_area-end
 slice_bounds-polygon_area-end c =
     let inside : c.loop-i.i < c.args.n = omega (arith, c.loop-i-test.true) in
     let row_fits : (c.loop-i.i * (c.args.nvp)) + (c.args.nvp) ≤ length ((c.args.polygons.now)) = row_end c.requires c.loop-i.i (inside) in
-    let few : c.count_corners-c.result ≤ (c.args.nvp) = count_most ((c.args.polygons.now)) ((c.loop-i.i * (c.args.nvp))) ((c.args.nvp)) ((c.loop-i.i * (c.args.nvp)) + (c.args.nvp) - (c.loop-i.i * (c.args.nvp))) (c.count_corners-c.result) (omega arith) (row_fits) c.count_corners-c.ensures in
+    let few : c.count_corners-c.result ≤ (c.args.nvp) = count_most ((c.args.polygons.now)) ((c.loop-i.i * (c.args.nvp))) ((c.args.nvp))
+    ((c.loop-i.i * (c.args.nvp)) + (c.args.nvp) - (c.loop-i.i * (c.args.nvp))) (c.count_corners-c.result) (omega arith) (row_fits)
+    c.count_corners-c.ensures in
     omega (arith, row_fits, few)
 
 pub polygon_area-sum-requires : goal.polygon_area-sum-requires
 polygon_area-sum-requires c =
     let inside : c.loop-i.i < c.args.n = omega (arith, c.loop-i-test.true) in
     let row_fits : (c.loop-i.i * (c.args.nvp)) + (c.args.nvp) ≤ length ((c.args.polygons.now)) = row_end c.requires c.loop-i.i (inside) in
-    let there : (view ((c.args.polygons.now)) ((c.loop-i.i * (c.args.nvp))) ((c.loop-i.i * (c.args.nvp)) + c.count_corners-c.result - (c.loop-i.i * (c.args.nvp)))) ≡ (up_to_none (view ((c.args.polygons.now)) ((c.loop-i.i * (c.args.nvp))) ((c.args.nvp)))) = corners_there ((c.args.polygons.now)) ((c.loop-i.i * (c.args.nvp))) ((c.args.nvp)) ((c.loop-i.i * (c.args.nvp)) + (c.args.nvp) - (c.loop-i.i * (c.args.nvp))) (c.count_corners-c.result) (omega arith) (row_fits) c.count_corners-c.ensures
+    let there : (view ((c.args.polygons.now)) ((c.loop-i.i * (c.args.nvp)))
+    ((c.loop-i.i * (c.args.nvp)) + c.count_corners-c.result - (c.loop-i.i * (c.args.nvp)))) ≡ (up_to_none
+    (view ((c.args.polygons.now)) ((c.loop-i.i * (c.args.nvp))) ((c.args.nvp)))) =
+    corners_there ((c.args.polygons.now)) ((c.loop-i.i * (c.args.nvp))) ((c.args.nvp))
+    ((c.loop-i.i * (c.args.nvp)) + (c.args.nvp) - (c.loop-i.i * (c.args.nvp))) (c.count_corners-c.result) (omega arith) (row_fits)
+    c.count_corners-c.ensures
     ((c.loop-i.i * (c.args.nvp)) + c.count_corners-c.result - (c.loop-i.i * (c.args.nvp))) (omega arith) in
     rw (there) (polygon_ready c.requires c.loop-i.i (inside))
 
@@ -76,18 +85,32 @@ pub overflow_add-sum : goal.overflow_add-sum
 overflow_add-sum c =
     let inside : c.loop-i.i < c.args.n = omega (arith, c.loop-i-test.true) in
     let row_fits : (c.loop-i.i * (c.args.nvp)) + (c.args.nvp) ≤ length ((c.args.polygons.now)) = row_end c.requires c.loop-i.i (inside) in
-    let there : (view ((c.args.polygons.now)) ((c.loop-i.i * (c.args.nvp))) ((c.loop-i.i * (c.args.nvp)) + c.count_corners-c.result - (c.loop-i.i * (c.args.nvp)))) ≡ (up_to_none (view ((c.args.polygons.now)) ((c.loop-i.i * (c.args.nvp))) ((c.args.nvp)))) = corners_there ((c.args.polygons.now)) ((c.loop-i.i * (c.args.nvp))) ((c.args.nvp)) ((c.loop-i.i * (c.args.nvp)) + (c.args.nvp) - (c.loop-i.i * (c.args.nvp))) (c.count_corners-c.result) (omega arith) (row_fits) c.count_corners-c.ensures
+    let there : (view ((c.args.polygons.now)) ((c.loop-i.i * (c.args.nvp)))
+    ((c.loop-i.i * (c.args.nvp)) + c.count_corners-c.result - (c.loop-i.i * (c.args.nvp)))) ≡ (up_to_none
+    (view ((c.args.polygons.now)) ((c.loop-i.i * (c.args.nvp))) ((c.args.nvp)))) =
+    corners_there ((c.args.polygons.now)) ((c.loop-i.i * (c.args.nvp))) ((c.args.nvp))
+    ((c.loop-i.i * (c.args.nvp)) + (c.args.nvp) - (c.loop-i.i * (c.args.nvp))) (c.count_corners-c.result) (omega arith) (row_fits)
+    c.count_corners-c.ensures
     ((c.loop-i.i * (c.args.nvp)) + c.count_corners-c.result - (c.loop-i.i * (c.args.nvp))) (omega arith) in
-    let added : c.polygon_area-sum.result ≡ area (places_of c.args.vertices.now ((up_to_none (view ((c.args.polygons.now)) ((c.loop-i.i * (c.args.nvp))) ((c.args.nvp)))))) = c.polygon_area-sum.ensures ∙ ap (λ (l : List ℕ). area (places_of c.args.vertices.now l)) (there) in
+    let added : c.polygon_area-sum.result ≡ area (places_of c.args.vertices.now
+    ((up_to_none (view ((c.args.polygons.now)) ((c.loop-i.i * (c.args.nvp))) ((c.args.nvp)))))) =
+    c.polygon_area-sum.ensures ∙ ap (λ (l : List ℕ). area (places_of c.args.vertices.now l)) (there) in
     add_needs c.loop-i.sum-bits c.requires c.loop-i.invariant (inside) (bits c) (added)
 
 pub loop-i-preserved : goal.loop-i-preserved
 loop-i-preserved c =
     let inside : c.loop-i.i < c.args.n = omega (arith, c.loop-i-test.true) in
     let row_fits : (c.loop-i.i * (c.args.nvp)) + (c.args.nvp) ≤ length ((c.args.polygons.now)) = row_end c.requires c.loop-i.i (inside) in
-    let there : (view ((c.args.polygons.now)) ((c.loop-i.i * (c.args.nvp))) ((c.loop-i.i * (c.args.nvp)) + c.count_corners-c.result - (c.loop-i.i * (c.args.nvp)))) ≡ (up_to_none (view ((c.args.polygons.now)) ((c.loop-i.i * (c.args.nvp))) ((c.args.nvp)))) = corners_there ((c.args.polygons.now)) ((c.loop-i.i * (c.args.nvp))) ((c.args.nvp)) ((c.loop-i.i * (c.args.nvp)) + (c.args.nvp) - (c.loop-i.i * (c.args.nvp))) (c.count_corners-c.result) (omega arith) (row_fits) c.count_corners-c.ensures
+    let there : (view ((c.args.polygons.now)) ((c.loop-i.i * (c.args.nvp)))
+    ((c.loop-i.i * (c.args.nvp)) + c.count_corners-c.result - (c.loop-i.i * (c.args.nvp)))) ≡ (up_to_none
+    (view ((c.args.polygons.now)) ((c.loop-i.i * (c.args.nvp))) ((c.args.nvp)))) =
+    corners_there ((c.args.polygons.now)) ((c.loop-i.i * (c.args.nvp))) ((c.args.nvp))
+    ((c.loop-i.i * (c.args.nvp)) + (c.args.nvp) - (c.loop-i.i * (c.args.nvp))) (c.count_corners-c.result) (omega arith) (row_fits)
+    c.count_corners-c.ensures
     ((c.loop-i.i * (c.args.nvp)) + c.count_corners-c.result - (c.loop-i.i * (c.args.nvp))) (omega arith) in
-    let added : c.polygon_area-sum.result ≡ area (places_of c.args.vertices.now ((up_to_none (view ((c.args.polygons.now)) ((c.loop-i.i * (c.args.nvp))) ((c.args.nvp)))))) = c.polygon_area-sum.ensures ∙ ap (λ (l : List ℕ). area (places_of c.args.vertices.now l)) (there) in
+    let added : c.polygon_area-sum.result ≡ area (places_of c.args.vertices.now
+    ((up_to_none (view ((c.args.polygons.now)) ((c.loop-i.i * (c.args.nvp))) ((c.args.nvp)))))) =
+    c.polygon_area-sum.ensures ∙ ap (λ (l : List ℕ). area (places_of c.args.vertices.now l)) (there) in
     summed_more c.loop-i.sum-bits c.requires c.loop-i.invariant (inside) (bits c) (added)
 
 pub returns : goal.returns

@@ -30,9 +30,11 @@ overflow_mul-n c =
     let seen : let g = c.args in
     Loaded (polygon_at (polygons_at g.work.now g.o g.np) c.loop-i.k) c.load_at-p.result = loaded_now c.requires c.loop-i.invariant c.load_at-p.ensures in
     let held : let g = c.args in
-    ltb 0 (holds g.rem (polygon_at (polygons_at g.work.now g.o g.np) c.loop-i.k)) ≡ true = held_now c.requires c.loop-i.invariant c.is_held.ensures ∙ c.if-is_held.true in
+    ltb 0 (holds g.rem (polygon_at (polygons_at g.work.now g.o g.np) c.loop-i.k)) ≡ true = held_now c.requires c.loop-i.invariant c.is_held.ensures ∙
+    c.if-is_held.true in
     let room_at : let at = c.loop-i in let g = c.args in
-    g.q + at.n * side_size + length (untouched g.rem (polygon_of c.load_at-p.result)) * side_size ≤ length at.work = collecting_room c.loop-i.invariant (search rules) (seen) (held) in
+    g.q + at.n * side_size + length (untouched g.rem (polygon_of c.load_at-p.result)) * side_size ≤ length at.work =
+    collecting_room c.loop-i.invariant (search rules) (seen) (held) in
     let h = room_at in search rules
 
 pub overflow_add-q : goal.overflow_add-q
@@ -40,9 +42,11 @@ overflow_add-q c =
     let seen : let g = c.args in
     Loaded (polygon_at (polygons_at g.work.now g.o g.np) c.loop-i.k) c.load_at-p.result = loaded_now c.requires c.loop-i.invariant c.load_at-p.ensures in
     let held : let g = c.args in
-    ltb 0 (holds g.rem (polygon_at (polygons_at g.work.now g.o g.np) c.loop-i.k)) ≡ true = held_now c.requires c.loop-i.invariant c.is_held.ensures ∙ c.if-is_held.true in
+    ltb 0 (holds g.rem (polygon_at (polygons_at g.work.now g.o g.np) c.loop-i.k)) ≡ true = held_now c.requires c.loop-i.invariant c.is_held.ensures ∙
+    c.if-is_held.true in
     let room_at : let at = c.loop-i in let g = c.args in
-    g.q + at.n * side_size + length (untouched g.rem (polygon_of c.load_at-p.result)) * side_size ≤ length at.work = collecting_room c.loop-i.invariant (search rules) (seen) (held) in
+    g.q + at.n * side_size + length (untouched g.rem (polygon_of c.load_at-p.result)) * side_size ≤ length at.work =
+    collecting_room c.loop-i.invariant (search rules) (seen) (held) in
     let h = room_at in search rules
 
 pub push_sides-n-requires : goal.push_sides-n-requires
@@ -50,9 +54,11 @@ push_sides-n-requires c =
     let seen : let g = c.args in
     Loaded (polygon_at (polygons_at g.work.now g.o g.np) c.loop-i.k) c.load_at-p.result = loaded_now c.requires c.loop-i.invariant c.load_at-p.ensures in
     let held : let g = c.args in
-    ltb 0 (holds g.rem (polygon_at (polygons_at g.work.now g.o g.np) c.loop-i.k)) ≡ true = held_now c.requires c.loop-i.invariant c.is_held.ensures ∙ c.if-is_held.true in
+    ltb 0 (holds g.rem (polygon_at (polygons_at g.work.now g.o g.np) c.loop-i.k)) ≡ true = held_now c.requires c.loop-i.invariant c.is_held.ensures ∙
+    c.if-is_held.true in
     let room_at : let at = c.loop-i in let g = c.args in
-    g.q + at.n * side_size + length (untouched g.rem (polygon_of c.load_at-p.result)) * side_size ≤ length at.work = collecting_room c.loop-i.invariant (search rules) (seen) (held) in
+    g.q + at.n * side_size + length (untouched g.rem (polygon_of c.load_at-p.result)) * side_size ≤ length at.work =
+    collecting_room c.loop-i.invariant (search rules) (seen) (held) in
     (search rules, room_at)
 
 pub overflow_add-n : goal.overflow_add-n
@@ -60,9 +66,11 @@ overflow_add-n c =
     let seen : let g = c.args in
     Loaded (polygon_at (polygons_at g.work.now g.o g.np) c.loop-i.k) c.load_at-p.result = loaded_now c.requires c.loop-i.invariant c.load_at-p.ensures in
     let held : let g = c.args in
-    ltb 0 (holds g.rem (polygon_at (polygons_at g.work.now g.o g.np) c.loop-i.k)) ≡ true = held_now c.requires c.loop-i.invariant c.is_held.ensures ∙ c.if-is_held.true in
+    ltb 0 (holds g.rem (polygon_at (polygons_at g.work.now g.o g.np) c.loop-i.k)) ≡ true = held_now c.requires c.loop-i.invariant c.is_held.ensures ∙
+    c.if-is_held.true in
     let room_at : let at = c.loop-i in let g = c.args in
-    g.q + at.n * side_size + length (untouched g.rem (polygon_of c.load_at-p.result)) * side_size ≤ length at.work = collecting_room c.loop-i.invariant (search rules) (seen) (held) in
+    g.q + at.n * side_size + length (untouched g.rem (polygon_of c.load_at-p.result)) * side_size ≤ length at.work =
+    collecting_room c.loop-i.invariant (search rules) (seen) (held) in
     let h = room_at in search rules
 
 pub loop-i-preserved-then-is_held : goal.loop-i-preserved-then-is_held
@@ -70,7 +78,8 @@ loop-i-preserved-then-is_held c =
     let seen : let g = c.args in
     Loaded (polygon_at (polygons_at g.work.now g.o g.np) c.loop-i.k) c.load_at-p.result = loaded_now c.requires c.loop-i.invariant c.load_at-p.ensures in
     let held : let g = c.args in
-    ltb 0 (holds g.rem (polygon_at (polygons_at g.work.now g.o g.np) c.loop-i.k)) ≡ true = held_now c.requires c.loop-i.invariant c.is_held.ensures ∙ c.if-is_held.true in
+    ltb 0 (holds g.rem (polygon_at (polygons_at g.work.now g.o g.np) c.loop-i.k)) ≡ true = held_now c.requires c.loop-i.invariant c.is_held.ensures ∙
+    c.if-is_held.true in
     collecting_more c.loop-i.invariant (search rules) (seen) (held) c.push_sides-n.ensures c.push_sides-n.auto.work
 
 pub overflow_add-i : goal.overflow_add-i

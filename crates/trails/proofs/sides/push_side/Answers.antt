@@ -14,21 +14,24 @@ corner-a-requires c =
 pub returns-then-a-rem : goal.returns-then-a-rem
 returns-then-a-rem c =
     let read : let g = c.args in
-    side_into g.rem (polygon_of g.p) g.j ≡ untouched_side g.rem (polygon_of g.p) c.corner-a.result c.corner-b.result = into c.args.rem c.args.p c.args.j (search rules) c.requires.0 c.prev.ensures c.corner-a.ensures c.corner-b.ensures in
+    side_into g.rem (polygon_of g.p) g.j ≡ untouched_side g.rem (polygon_of g.p) c.corner-a.result c.corner-b.result =
+    into c.args.rem c.args.p c.args.j (search rules) c.requires.0 c.prev.ensures c.corner-a.ensures c.corner-b.ensures in
     let g = c.args in
     laid_as (read ∙ touched_start g.rem (polygon_of g.p) _ _ c.if-a-rem.true) (laid_none g.rem g.at g.work.now)
 
 pub returns-then-b-rem : goal.returns-then-b-rem
 returns-then-b-rem c =
     let read : let g = c.args in
-    side_into g.rem (polygon_of g.p) g.j ≡ untouched_side g.rem (polygon_of g.p) c.corner-a.result c.corner-b.result = into c.args.rem c.args.p c.args.j (search rules) c.requires.0 c.prev.ensures c.corner-a.ensures c.corner-b.ensures in
+    side_into g.rem (polygon_of g.p) g.j ≡ untouched_side g.rem (polygon_of g.p) c.corner-a.result c.corner-b.result =
+    into c.args.rem c.args.p c.args.j (search rules) c.requires.0 c.prev.ensures c.corner-a.ensures c.corner-b.ensures in
     let g = c.args in
     laid_as (read ∙ touched_end g.rem (polygon_of g.p) _ _ c.if-a-rem.false c.if-b-rem.true) (laid_none g.rem g.at g.work.now)
 
 pub store_side-requires : goal.store_side-requires
 store_side-requires c =
     let read : let g = c.args in
-    side_into g.rem (polygon_of g.p) g.j ≡ untouched_side g.rem (polygon_of g.p) c.corner-a.result c.corner-b.result = into c.args.rem c.args.p c.args.j (search rules) c.requires.0 c.prev.ensures c.corner-a.ensures c.corner-b.ensures in
+    side_into g.rem (polygon_of g.p) g.j ≡ untouched_side g.rem (polygon_of g.p) c.corner-a.result c.corner-b.result =
+    into c.args.rem c.args.p c.args.j (search rules) c.requires.0 c.prev.ensures c.corner-a.ensures c.corner-b.ensures in
     let g = c.args in
     let e = ap length (read ∙ untouched_one g.rem (polygon_of g.p) _ _ c.if-a-rem.false c.if-b-rem.false) in
     search rules
@@ -36,7 +39,8 @@ store_side-requires c =
 pub returns : goal.returns
 returns c =
     let read : let g = c.args in
-    side_into g.rem (polygon_of g.p) g.j ≡ untouched_side g.rem (polygon_of g.p) c.corner-a.result c.corner-b.result = into c.args.rem c.args.p c.args.j (search rules) c.requires.0 c.prev.ensures c.corner-a.ensures c.corner-b.ensures in
+    side_into g.rem (polygon_of g.p) g.j ≡ untouched_side g.rem (polygon_of g.p) c.corner-a.result c.corner-b.result =
+    into c.args.rem c.args.p c.args.j (search rules) c.requires.0 c.prev.ensures c.corner-a.ensures c.corner-b.ensures in
     let g = c.args in
     laid_as (read ∙ untouched_one g.rem (polygon_of g.p) _ _ c.if-a-rem.false c.if-b-rem.false)
     (laid_one g.rem g.p c.corner-a.result c.corner-b.result g.at g.work.now

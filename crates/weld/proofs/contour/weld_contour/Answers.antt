@@ -10,7 +10,8 @@ loop-i-init c = going_begin c.args.height c.args.work.now c.args.numbers.now c.a
 pub weld_vertex-k-requires : goal.weld_vertex-k-requires
 weld_vertex-k-requires c = (
   going_now c.args.height c.args.work.now c.args.numbers.now c.args.t c.args.nv c.args.ko c.args.first c.args.n c.requires c.loop-i.invariant,
-  going_room c.args.height c.args.work.now c.args.numbers.now c.args.t c.args.nv c.args.ko c.args.first c.args.n c.requires c.loop-i.invariant c.loop-i-test.true,
+  going_room c.args.height c.args.work.now c.args.numbers.now c.args.t c.args.nv c.args.ko c.args.first c.args.n c.requires c.loop-i.invariant
+      c.loop-i-test.true,
 )
 
 -- src/contour.rt:53:5
@@ -22,4 +23,5 @@ loop-i-preserved c =
 -- src/contour.rt:38:1
 pub returns : goal.returns
 returns c =
-    going_end c.args.height c.args.work.now c.args.numbers.now c.args.t c.args.nv c.args.ko c.args.first c.args.n c.requires c.loop-i.invariant c.loop-i-test.false
+    going_end c.args.height c.args.work.now c.args.numbers.now c.args.t c.args.nv c.args.ko c.args.first c.args.n c.requires c.loop-i.invariant
+    c.loop-i-test.false

@@ -9,15 +9,34 @@ search-init c = (walk_first c.args.work.now c.args.t c.args.nv c.requires c.args
 
 -- src/find.rt:61:31
 pub overflow_mul-at : goal.overflow_mul-at
-overflow_mul-at c = record { fits = omega (arith, step_fits c.args.work.now c.args.t c.args.nv c.requires c.args.height c.args.v c.search.invariant.0 (search rules)) }
+overflow_mul-at c = record {
+  fits = omega (
+    arith,
+    step_fits c.args.work.now c.args.t c.args.nv c.requires c.args.height c.args.v c.search.invariant.0
+        (search rules),
+  );
+}
 
 -- src/find.rt:61:18
 pub overflow_add-at : goal.overflow_add-at
-overflow_add-at c = record { fits = omega (arith, step_fits c.args.work.now c.args.t c.args.nv c.requires c.args.height c.args.v c.search.invariant.0 c.search-test.true) }
+overflow_add-at c = record {
+  fits = omega (
+    arith,
+    step_fits c.args.work.now c.args.t c.args.nv c.requires c.args.height c.args.v c.search.invariant.0
+        c.search-test.true,
+  );
+}
 
 -- src/find.rt:62:30
 pub overflow_add-t-in-search : goal.overflow_add-t-in-search
-overflow_add-t-in-search c = record { fits = omega (arith, step_link c.args.work.now c.args.t c.args.nv c.requires c.args.height c.args.v c.search.invariant.0 c.search-test.true) }
+overflow_add-t-in-search c =
+    record {
+      fits = omega (
+        arith,
+        step_link c.args.work.now c.args.t c.args.nv c.requires c.args.height c.args.v c.search.invariant.0
+            c.search-test.true,
+      );
+    }
 
 -- src/find.rt:62:9
 pub link_at-link-requires-in-search : goal.link_at-link-requires-in-search
@@ -48,9 +67,11 @@ search-preserved c = (
 -- src/find.rt:53:1
 pub returns-after-search : goal.returns-after-search
 returns-after-search c =
-    c.search.invariant.1 ∙ walk_none c.args.height (vertices_at c.args.work.now c.args.t.vertices c.args.nv) c.args.v c.args.nv c.search.invariant.0 c.search-test.false
+    c.search.invariant.1 ∙ walk_none c.args.height (vertices_at c.args.work.now c.args.t.vertices c.args.nv) c.args.v c.args.nv c.search.invariant.0
+    c.search-test.false
 
 -- src/find.rt:53:1
 pub returns-after-loop-c : goal.returns-after-loop-c
 returns-after-loop-c c =
-    step_found c.args.work.now c.args.t c.args.nv c.requires c.args.height c.args.v c.search.invariant.0 c.search-test.true c.loop-c.invariant.0 c.loop-c-test.false
+    step_found c.args.work.now c.args.t c.args.nv c.requires c.args.height c.args.v c.search.invariant.0 c.search-test.true c.loop-c.invariant.0
+    c.loop-c-test.false
