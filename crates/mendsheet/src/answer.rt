@@ -5,8 +5,8 @@ ghost use Rattle.lines.specs.Print.{Printed};
 ghost use Rattle.sheet.specs.Room.{out_most};
 ghost use Rattle.mendsheet.specs.Mended.{mended_text, MendReady, losses_of, LossesReady};
 
-use crate::contours::put_sheet;
 use crate::lost::put_lost;
+use crate::print::put_sheet;
 use mend::job::mend_job;
 use rules::MendReply;
 use sheet::heading::Heading;

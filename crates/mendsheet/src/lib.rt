@@ -2,7 +2,7 @@
 // and `lost_sheet` are the functions for users; the modules are their steps.
 #![tactic(auto)]
 
-mod contours; // a sheet is printed
+mod print; // a sheet is printed
 mod lost; // the lines of lost points are printed
 mod answer; // a sheet that was read is mended, and its text printed
 mod text; // a sheet becomes a text

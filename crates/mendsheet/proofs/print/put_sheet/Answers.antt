@@ -1,9 +1,9 @@
--- `mendsheet::contours::put_sheet` meets its contract: the heading, and the contours behind it. Assumes nothing.
+-- `mendsheet::print::put_sheet` meets its contract: the heading, and the contours behind it. Assumes nothing.
 use Rattle.rules.specs.MendSheet.{sheet_text}
 use Rattle.lines.specs.Pieces.{Going, going_begin, going_room, going_more, going_end}
 use Rattle.sheet.specs.Reading.{sheet_of, with_lists}
 use Rattle.mendsheet.proofs.SheetTexts.{sheet_texts, sheet_texts_lem}
-use Rattle.mendsheet.proofs.contours.put_sheet.Goals as goal
+use Rattle.mendsheet.proofs.print.put_sheet.Goals as goal
 
 pub put_heading-a-requires : goal.put_heading-a-requires
 put_heading-a-requires c =

@@ -4,7 +4,7 @@ use borrow.Author.Rules.{rules}
 use Rattle.rules.specs.Lines.{ascii}
 use Rattle.rules.specs.Sheet.{contour_name}
 use Rattle.mendsheet.proofs.SheetTexts.{contours_begin, contours_all, contour_there, line_room, points_ready, contours_more}
-use Rattle.mendsheet.proofs.contours.put_contours.Goals as goal
+use Rattle.mendsheet.proofs.print.put_contours.Goals as goal
 
 pub loop-c-init : goal.loop-c-init
 loop-c-init c =

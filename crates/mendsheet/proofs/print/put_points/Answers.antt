@@ -6,7 +6,7 @@ use Rattle.rules.specs.Sheet.{v_name}
 use Rattle.rules.specs.MendSheet.{traced_line}
 use Rattle.lines.specs.Pieces.{pieces_room, pieces_more, pieces_all}
 use Rattle.mendsheet.proofs.SheetTexts.{points_begin}
-use Rattle.mendsheet.proofs.contours.put_points.Goals as goal
+use Rattle.mendsheet.proofs.print.put_points.Goals as goal
 
 pub loop-k-init : goal.loop-k-init
 loop-k-init c = points_begin c.requires

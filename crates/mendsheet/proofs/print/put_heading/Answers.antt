@@ -1,4 +1,4 @@
--- `mendsheet::contours::put_heading` meets its contract: the top, and the lines of nvp and grid, are printed one behind the other. Assumes nothing.
+-- `mendsheet::print::put_heading` meets its contract: the top, and the lines of nvp and grid, are printed one behind the other. Assumes nothing.
 use mathlib.Core.Path.{refl}
 use Rattle.rules.specs.Lines.{ascii}
 use Rattle.rules.specs.Sheet.{nvp_name, grid_name}
@@ -6,7 +6,7 @@ use Rattle.rules.specs.MendSheet.{heading_text}
 use Rattle.lines.specs.Pieces.{Going, going_begin, going_room, going_more, going_end}
 use Rattle.sheet.specs.Reading.{sheet_of}
 use Rattle.mendsheet.proofs.SheetTexts.{heading_texts, heading_texts_lem}
-use Rattle.mendsheet.proofs.contours.put_heading.Goals as goal
+use Rattle.mendsheet.proofs.print.put_heading.Goals as goal
 
 pub put_top-a-requires : goal.put_top-a-requires
 put_top-a-requires c =
