@@ -17,34 +17,38 @@ texts-are : (n : ℕ) → decimals n ≡ joined (texts n)
 unfolding decimals joined ascii
 texts-are n = ap (λ (l : List ℕ). decimal (n / 10000) ++ (46 ∷ l)) (sym (append-nil (four_digits (n % 10000))))
 
+-- i texts are printed
+abbrev Done : ℕ → List ℕ → ℕ → ℕ → List ℕ → ℕ → Type 0
+Done n out at i w to = Going (decimals n) out at (drop i (texts n)) w to
+
 pub put_decimal-a-requires : goal.put_decimal-a-requires
 put_decimal-a-requires c =
-    let begun : (Going (decimals c.args.n) c.args.out.now c.args.at (drop 0 (texts c.args.n)) c.args.out.now c.args.at) = going_begin _ _ _ (texts-are c.args.n) c.requires in
-    going_room (begun)
+    let begun : Done c.args.n c.args.out.now c.args.at 0 c.args.out.now c.args.at = going_begin _ _ _ (texts-are c.args.n) c.requires in
+    going_room begun
 
 pub bounds-out-a : goal.bounds-out-a
 bounds-out-a c =
-    let begun : (Going (decimals c.args.n) c.args.out.now c.args.at (drop 0 (texts c.args.n)) c.args.out.now c.args.at) = going_begin _ _ _ (texts-are c.args.n) c.requires in
-    let whole : (Going (decimals c.args.n) c.args.out.now c.args.at (drop 1 (texts c.args.n)) c.put_decimal-a.new.out c.put_decimal-a.result) = going_more (begun) c.put_decimal-a.ensures in
-    going_place (whole)
+    let begun : Done c.args.n c.args.out.now c.args.at 0 c.args.out.now c.args.at = going_begin _ _ _ (texts-are c.args.n) c.requires in
+    let whole : Done c.args.n c.args.out.now c.args.at 1 c.put_decimal-a.new.out c.put_decimal-a.result = going_more begun c.put_decimal-a.ensures in
+    going_place whole
 
 pub overflow_add-a : goal.overflow_add-a
 overflow_add-a c =
-    let begun : (Going (decimals c.args.n) c.args.out.now c.args.at (drop 0 (texts c.args.n)) c.args.out.now c.args.at) = going_begin _ _ _ (texts-are c.args.n) c.requires in
-    let whole : (Going (decimals c.args.n) c.args.out.now c.args.at (drop 1 (texts c.args.n)) c.put_decimal-a.new.out c.put_decimal-a.result) = going_more (begun) c.put_decimal-a.ensures in
-    omega (arith, going_place (whole))
+    let begun : Done c.args.n c.args.out.now c.args.at 0 c.args.out.now c.args.at = going_begin _ _ _ (texts-are c.args.n) c.requires in
+    let whole : Done c.args.n c.args.out.now c.args.at 1 c.put_decimal-a.new.out c.put_decimal-a.result = going_more begun c.put_decimal-a.ensures in
+    omega (arith, going_place whole)
 
 pub put_four-requires : goal.put_four-requires
 put_four-requires c =
-    let begun : (Going (decimals c.args.n) c.args.out.now c.args.at (drop 0 (texts c.args.n)) c.args.out.now c.args.at) = going_begin _ _ _ (texts-are c.args.n) c.requires in
-    let whole : (Going (decimals c.args.n) c.args.out.now c.args.at (drop 1 (texts c.args.n)) c.put_decimal-a.new.out c.put_decimal-a.result) = going_more (begun) c.put_decimal-a.ensures in
-    record { n_bound = omega arith; room = going_room (going_byte (whole)) }
+    let begun : Done c.args.n c.args.out.now c.args.at 0 c.args.out.now c.args.at = going_begin _ _ _ (texts-are c.args.n) c.requires in
+    let whole : Done c.args.n c.args.out.now c.args.at 1 c.put_decimal-a.new.out c.put_decimal-a.result = going_more begun c.put_decimal-a.ensures in
+    record { n_bound = omega arith; room = going_room (going_byte whole) }
 
 pub returns : goal.returns
 returns c =
-    let begun : (Going (decimals c.args.n) c.args.out.now c.args.at (drop 0 (texts c.args.n)) c.args.out.now c.args.at) = going_begin _ _ _ (texts-are c.args.n) c.requires in
-    let whole : (Going (decimals c.args.n) c.args.out.now c.args.at (drop 1 (texts c.args.n)) c.put_decimal-a.new.out c.put_decimal-a.result) = going_more (begun) c.put_decimal-a.ensures in
-    going_end (going_more (going_byte (whole)) c.put_four.ensures)
+    let begun : Done c.args.n c.args.out.now c.args.at 0 c.args.out.now c.args.at = going_begin _ _ _ (texts-are c.args.n) c.requires in
+    let whole : Done c.args.n c.args.out.now c.args.at 1 c.put_decimal-a.new.out c.put_decimal-a.result = going_more begun c.put_decimal-a.ensures in
+    going_end (going_more (going_byte whole) c.put_four.ensures)
 
 pub shape_of-out : goal.shape_of-out
 shape_of-out c = printed_same_length (returns c)
