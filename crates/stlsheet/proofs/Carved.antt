@@ -85,7 +85,7 @@ module _ {s : Sheet} {h : Header} {b : Lent} {q : Answer} {u : Lent} (c : Called
 
     -- what is handed on from the buffers is what the rules say of them
     handed : let m = mesh_built.mesh in handed_on s.job.nvp (exits s.job b) (length m.polygons) (length m.vertices) ≡ handed_on s.job.nvp u n k
-    handed = same_handed s.job.nvp (sym c.left) (sym mesh-built.polygons) (sym mesh-built.vertices)
+    handed = same_handed s.job.nvp (sym c.left) (sym mesh_built.polygons) (sym mesh_built.vertices)
 
     built_file : let m = handed_on s.job.nvp u n k in let scale = scale_of s.inches s.size s.height in
         carved_text s (outcome_of s.job) ≡ written_text (mesh_file m scale) (stl_reply m scale out_most)
