@@ -135,7 +135,11 @@ def turned_rt(text, table, fields):
 
 
 def main():
+    if sys.argv[1:] not in ([], ["--list"]):
+        raise SystemExit(__doc__)
     table, fields = declared()
+    if not any(re.search(r"[a-z][A-Z]", old) for old in table):
+        raise SystemExit("respell: no name in lower camel case is left: the script has run")
     of_rust = {old: new for old, new in table.items() if old not in TAKEN}
     listing = "--list" in sys.argv
     if listing:

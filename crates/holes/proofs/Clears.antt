@@ -15,7 +15,7 @@ use Rattle.rules.specs.Lists.{swap_remove, without}
 use Rattle.rules.specs.Links.{none}
 use Rattle.rules.specs.Exits.{padded}
 use Rattle.rules.specs.Mesh.{Polygon, no_polygon, polygon_at}
-use Rattle.rules.specs.Removal.{holds, untouched, TakingOut, take_one, taken_out_lem, dropped, dropped_in, polygons_left}
+use Rattle.rules.specs.Removal.{holds, untouched, TakingOut, take_one, taken_out, dropped, dropped_in, polygons_left}
 use Rattle.rules.specs.Fuel.{taking}
 use Rattle.rules.specs.declared.Side.{Side}
 use Rattle.laws.proofs.Lists.{get_or_map_in, swap_length, every_swap}
@@ -37,7 +37,7 @@ pub record Taking (w₀ : List ℕ) (o np rem : ℕ) (w : List ℕ) (m i : ℕ) 
   pub left : Blanked w₀ o np w ps m
   pub within : i ≤ m
   pub size : length w ≡ length w₀
-  pub same : (taken_out_lem rem (polygons_at w₀ o np)).polygons ≡ (taking rem (record { polygons = ps; sides = ss; at = i })).polygons
+  pub same : (taken_out rem (polygons_at w₀ o np)).polygons ≡ (taking rem (record { polygons = ps; sides = ss; at = i })).polygons
 
 -- one polygon looked at: it is taken out, or passed
 took : (rem : ℕ) (s : TakingOut) → ltb 0 (holds rem (polygon_at s.polygons s.at)) ≡ true
@@ -86,7 +86,7 @@ module _ {w₀ : List ℕ} {o np : ℕ} (r : Standing w₀ o np) (rem : ℕ) whe
     }
 
     module _ (h : i < m) where
-      turn : (taken_out_lem rem (polygons_at w₀ o np)).polygons ≡ (taking rem (take_one rem now)).polygons
+      turn : (taken_out rem (polygons_at w₀ o np)).polygons ≡ (taking rem (take_one rem now)).polygons
       unfolding now
       turn = g.same ∙ ap (λ (x : TakingOut). x.polygons) ((taking_turns rem now).look (rw g.left.long h))
 
@@ -119,10 +119,10 @@ module _ {w₀ : List ℕ} {o np : ℕ} (r : Standing w₀ o np) (rem : ℕ) whe
         }
 
     -- all are looked at: what is left is R5's
-    pub taking_end : m ≤ i → Blanked w₀ o np w (taken_out_lem rem (polygons_at w₀ o np)).polygons m
+    pub taking_end : m ≤ i → Blanked w₀ o np w (taken_out rem (polygons_at w₀ o np)).polygons m
     unfolding now
     taking_end h =
-        let e : (taken_out_lem rem (polygons_at w₀ o np)).polygons ≡ g.ps =
+        let e : (taken_out rem (polygons_at w₀ o np)).polygons ≡ g.ps =
         g.same ∙ ap (λ (x : TakingOut). x.polygons) ((taking_turns rem now).end (rw g.left.long h)) in
         rw e g.left
 
@@ -269,8 +269,8 @@ module _ {v w : List ℕ} {o np rem m : ℕ} (r : ClearReady v o np) (t : TakenT
   pub cleared : {u : List ℕ} → u ≡ splice w o (polygon_records (map (dropped_in rem) (polygons_at w o m))) → ClearedTo v u o np rem m
   unfolding polygons_left
   cleared e = record {
-    left = blanked_same v o np r.standing.fits t.left (map (dropped_in rem) (taken_out_lem rem (polygons_at v o np)).polygons)
-        (dropped_small rem (taken_out_lem rem (polygons_at v o np)).polygons t.left.small)
-        (length-map (taken_out_lem rem (polygons_at v o np)).polygons (dropped_in rem) ∙ t.left.long)
+    left = blanked_same v o np r.standing.fits t.left (map (dropped_in rem) (taken_out rem (polygons_at v o np)).polygons)
+        (dropped_small rem (taken_out rem (polygons_at v o np)).polygons t.left.small)
+        (length-map (taken_out rem (polygons_at v o np)).polygons (dropped_in rem) ∙ t.left.long)
         (rw (blanked_are v o np r.standing.fits t.left) at e);
   }

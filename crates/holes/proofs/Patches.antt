@@ -22,7 +22,7 @@ use Rattle.records.specs.Layout.{vertex_size, point_size, polygon_size, vertex_i
 use Rattle.records.specs.Fixed.{point_fixed, fixed_count}
 use Rattle.records.specs.Polygons.{length_records}
 use Rattle.holes.specs.declared.fill.Filled.TheVariants.{Polygons}
-use Rattle.holes.specs.Fill.{place_words, cut_words, triangles_at, MeshReady, MeshedTo, FillReady, hole_polygons, filled_of, filled_in_lem}
+use Rattle.holes.specs.Fill.{place_words, cut_words, triangles_at, MeshReady, MeshedTo, FillReady, hole_polygons, filled_of, filled_in}
 use Rattle.polys.specs.Rows.{row_size, wiped}
 use Rattle.holes.specs.Places.{placed_words}
 
@@ -43,8 +43,8 @@ module _ {v : List ℕ} {vo nv at q m po nvp : ℕ} (r : FillReady v vo nv at q 
 
   -- there was no ear to cut
   pub stuck_words : {x : List ℕ} {k : ℕ} → triangulate (places_of (vertices_at v vo nv) (points_at v q m)) ≡ stuck k → x ≡ splice w po (replicate (m * 6 - 6) 0)
-      → x ≡ filled_in_lem v (vertices_at v vo nv) nvp at po (points_at v q m) (triangulate (places_of (vertices_at v vo nv) (points_at v q m)))
-  unfolding filled_in_lem cut_words vs hole
+      → x ≡ filled_in v (vertices_at v vo nv) nvp at po (points_at v q m) (triangulate (places_of (vertices_at v vo nv) (points_at v q m)))
+  unfolding filled_in cut_words vs hole
   stuck_words {x} {k} d f =
       let l : length (packed place_words (places_of vs hole) ++ replicate (m + (m - 2) * 3) 0) ≡ m * 6 - 6 =
       simp (length-append, length-replicate) (omega (arith, placed_words (places_of vs hole), long_places, r.cut.some)) in
@@ -177,8 +177,8 @@ module _ {v : List ℕ} {vo nv at q m po nvp : ℕ} (r : FillReady v vo nv at q 
       meshed_words = rw left at (rw (same_vertices, same_points, c, triangles_there) at x.is)
 
       pub fill_words : {y : List ℕ} → y ≡ splice u po (replicate (m * 6 - 6) 0)
-          → y ≡ filled_in_lem v (vertices_at v vo nv) nvp at po (points_at v q m) (triangulate (places_of (vertices_at v vo nv) (points_at v q m)))
-      unfolding filled_in_lem new R hole T
+          → y ≡ filled_in v (vertices_at v vo nv) nvp at po (points_at v q m) (triangulate (places_of (vertices_at v vo nv) (points_at v q m)))
+      unfolding filled_in new R hole T
       fill_words {y} f =
           let C = P ++ (Z ++ T) in
           let g : u ≡ splice (splice v at R) po C =
@@ -188,7 +188,7 @@ module _ {v : List ℕ} {vo nv at q m po nvp : ℕ} (r : FillReady v vo nv at q 
 
       -- the same, where the merge left zeros in the place of its rows
       pub fill_over : {z y : List ℕ} → z ≡ wiped u po k → y ≡ splice z po (replicate (m * 6 - 6) 0)
-          → y ≡ filled_in_lem v (vertices_at v vo nv) nvp at po (points_at v q m) (triangulate (places_of (vertices_at v vo nv) (points_at v q m)))
+          → y ≡ filled_in v (vertices_at v vo nv) nvp at po (points_at v q m) (triangulate (places_of (vertices_at v vo nv) (points_at v q m)))
       unfolding wiped
       fill_over {z} {y} a f =
           let xs : List ℕ = replicate (k * row_size) 0 in

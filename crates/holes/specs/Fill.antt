@@ -99,8 +99,8 @@ filled_of vs nvp hole (done ts) = Polygons (length (hole_polygons vs nvp hole ts
 filled_of vs nvp hole (stuck k) = NoEars
 
 -- and what it leaves: its polygons at `at`, with blank ones behind them, as many as triangles in all; and zeros where it was cut
-unfoldable pub filled_in_lem : List ℕ → List Vertex → ℕ → ℕ → ℕ → List ChainPoint → Ears → List ℕ
-filled_in_lem w vs nvp at po hole (done ts) =
+unfoldable pub filled_in : List ℕ → List Vertex → ℕ → ℕ → ℕ → List ChainPoint → Ears → List ℕ
+filled_in w vs nvp at po hole (done ts) =
     let ps = hole_polygons vs nvp hole ts in
     splice (splice w at (polygon_records (ps ++ replicate (length hole - 2 - length ps) no_polygon))) po (replicate (length hole * 6 - 6) 0)
-filled_in_lem w vs nvp at po hole (stuck k) = splice w po (replicate (length hole * 6 - 6) 0)
+filled_in w vs nvp at po hole (stuck k) = splice w po (replicate (length hole * 6 - 6) 0)

@@ -19,7 +19,7 @@ use Rattle.rules.specs.declared.Side.{Side}
 use Rattle.rules.specs.Plane.{D, area}
 use Rattle.rules.specs.Lists.{prev, swap_remove, count}
 use Rattle.rules.specs.Mesh.{Polygon, no_polygon, polygon_at, side_start, side_end}
-use Rattle.rules.specs.Removal.{holds, untouched_side, side_into, untouched, TakingOut, take_one, taken_out_lem, held_once, other_end, neighbours_in}
+use Rattle.rules.specs.Removal.{holds, untouched_side, side_into, untouched, TakingOut, take_one, taken_out, held_once, other_end, neighbours_in}
 use Rattle.rules.specs.Areas.{sum_of}
 use Rattle.laws.proofs.Tests.{run_all}
 use Rattle.laws.specs.Lists.{All, none, more, gather}
@@ -214,8 +214,8 @@ take_out rem (suc f) s e a =
           (rw (add-one s.at, take-suc ps s.at no_polygon (omega arith)) (all_append a (more (omega (arith, ltb-false 0 (holds rem p) q)) none)))
     ]) refl
 
-pub took_out : (rem : ℕ) (ps : List Polygon) → TookOut rem ps [] (taken_out_lem rem ps)
-unfolding taken_out_lem
+pub took_out : (rem : ℕ) (ps : List Polygon) → TookOut rem ps [] (taken_out rem ps)
+unfolding taken_out
 took_out rem ps = take_out rem (length ps) (record { polygons = ps; sides = []; at = 0 }) (omega arith) none
 
 -- ---- the test that every polygon holds the vertex at most once

@@ -13,7 +13,7 @@ use Rattle.rules.specs.declared.Found.{Found}
 use Rattle.rules.specs.declared.Found.TheVariants.{At, Nothing}
 use Rattle.rules.specs.Lists.{when, or_else, down}
 use Rattle.rules.specs.Mesh.{Polygon, polygon_at, side_start, side_end}
-use Rattle.rules.specs.Links.{no_edge, each_side, record_side, is_free_lem, newest, joined_to, join_at, join_side, edges_of}
+use Rattle.rules.specs.Links.{no_edge, each_side, record_side, is_free, newest, joined_to, join_at, join_side, edges_of}
 use Rattle.laws.specs.Searches.{found}
 use Rattle.laws.proofs.Searches.{found_in}
 use Rattle.laws.specs.EdgeSides.{Runs, edge_at}
@@ -35,8 +35,8 @@ record Free (a b : ℕ) (e : Edge) : Type 0 where
   low : e.low ≡ a
   high : e.high ≡ b
 
-is_free_lem : (low high : ℕ) (e : Edge) → is_free_lem low high e ≡ true → Free low high e
-unfolding is_free_lem
+is_free_lem : (low high : ℕ) (e : Edge) → is_free low high e ≡ true → Free low high e
+unfolding is_free
 is_free_lem low high e t =
     let x = eqb e.low low in
     let y = eqb e.high high in
@@ -127,7 +127,7 @@ module _ (ps : List Polygon) where
       b = side_end (polygon_at ps i).corners j
 
       test : ℕ → Bool
-      test n = is_free_lem b a (edge_at es n)
+      test n = is_free b a (edge_at es n)
 
       take : (f : Found) → f ≡ found test (length es) → Joins ps i (suc j) (join_at i j es f)
       take (At n) e =

@@ -9,7 +9,7 @@ use Rattle.rules.specs.Lists.{swap_remove}
 use Rattle.rules.specs.Ears.{indices, mark_all, find_ear, cut_ear, cut_all, triangulate}
 use Rattle.rules.specs.Mesh.{Polygon, no_polygon, polygon_at, Mesh, no_mesh}
 use Rattle.rules.specs.Merge.{best_pair, join_pair, joined, merge_loop, merge_all}
-use Rattle.rules.specs.Removal.{holds, untouched, TakingOut, take_one, taken_out_lem, Walk, walk_one, walk_once, walk_start, walk, Removal, gone, remove_vertex, remove_from, remove_all}
+use Rattle.rules.specs.Removal.{holds, untouched, TakingOut, take_one, taken_out, Walk, walk_one, walk_once, walk_start, walk, Removal, gone, remove_vertex, remove_from, remove_all}
 use Rattle.rules.specs.Job.{Job}
 use Rattle.rules.specs.Build.{add_from, add_all}
 use Rattle.rules.specs.Fuel.{Cutting, CutFromTheStart, Merging, NoPairLeft, Taking, TakenOut, Passing, WalkedOnce, Walking, NoSideLeftToUse, Trying, TriedFromTheStart, Adding, AddedFromTheStart, FuelSuffices}
@@ -119,7 +119,7 @@ taking_turns rem s = record {
 }
 
 pub taken_out_lem : TakenOut
-unfolding taken_out_lem
+unfolding taken_out
 taken_out_lem rem ps = let p : length ps - 0 ≡ length ps = omega arith in rw p refl
 
 -- ---- R5: once over the sides. Each turn uses a side or steps past one

@@ -212,10 +212,10 @@ module _ (m : Handed) where
   abbrev in_links : Soundness
   in_links = or_fault BadLinks (first_fault (links_hold m) (polygon_count m)) Sound
 
-  abbrev in_order_lem : Soundness
-  in_order_lem = or_fault BadCorners (first_fault (corners_hold m) (polygon_count m)) in_links
+  abbrev in_order : Soundness
+  in_order = or_fault BadCorners (first_fault (corners_hold m) (polygon_count m)) in_links
 
-  pub in_order_lem : buffers_hold m ≡ true → soundness m ≡ in_order_lem
+  pub in_order_lem : buffers_hold m ≡ true → soundness m ≡ in_order
   unfolding soundness
   in_order_lem e = rw (e, soundness) refl
 

@@ -4,7 +4,7 @@ use Rattle.std.specs.Prelude.{ℕ, ◌<◌, length}
 use Rattle.std.proofs.Common.{arith}
 use Rattle.std.proofs.lemmas.List.{length-map}
 use Rattle.rules.specs.Mesh.{Mesh}
-use Rattle.rules.specs.Removal.{taken_out_lem, dropped_in, polygons_left, sides_left, walk}
+use Rattle.rules.specs.Removal.{taken_out, dropped_in, polygons_left, sides_left, walk}
 use Rattle.laws.proofs.Lists.{all_imp}
 use Rattle.laws.specs.Merge.{Good, Below}
 use Rattle.laws.proofs.Merge.{polygons_few}
@@ -16,7 +16,7 @@ pub left_over : (nvp rem : ℕ) (m : Mesh) → rem < length m.vertices → Sound
 unfolding polygons_left sides_left
 left_over nvp rem m here sound may =
     let ps = m.polygons in
-    let out = taken_out_lem rem ps in
+    let out = taken_out rem ps in
     let chain = (walk (sides_left rem ps)).chain in
     let n = chain_counts rem ps may in
     let l = length_sides rem ps in

@@ -23,7 +23,7 @@ use Rattle.rules.specs.Ears.{Ears, done, stuck, triangulate}
 use Rattle.rules.specs.Weld.{no_vertex}
 use Rattle.rules.specs.Mesh.{Polygon, Mesh, place_of}
 use Rattle.rules.specs.Merge.{merge_all}
-use Rattle.rules.specs.Removal.{no_point, holds, untouched, TakingOut, taken_out_lem, dropped, dropped_in, dropped_side, polygons_left, sides_left, first_of, last_of, walk, held_once, met_once, neighbours, can_remove, is_closed, hole_of, places_of, hole_triangle, Removal, gone, fill_hole, remove_vertex}
+use Rattle.rules.specs.Removal.{no_point, holds, untouched, TakingOut, taken_out, dropped, dropped_in, dropped_side, polygons_left, sides_left, first_of, last_of, walk, held_once, met_once, neighbours, can_remove, is_closed, hole_of, places_of, hole_triangle, Removal, gone, fill_hole, remove_vertex}
 use Rattle.rules.specs.Areas.{sum_of, points_of, polygon_area, mesh_area, area_taken}
 use Rattle.laws.specs.Measures.{area_of, spare_of, spares_in}
 use Rattle.laws.specs.Lists.{All, none, more, total}
@@ -121,14 +121,14 @@ spare_once rem p k = omega (arith, k.long, length_untouched rem p (omega (arith,
 
 -- of polygons with three corners or more, each of which holds the vertex at most once: each side that is given is a corner beyond two that has gone
 pub spares_opened : (rem : ℕ) (ps : List Polygon) → All Long ps → held_once rem ps ≡ true
-    → spares_in ps ≡ length (taken_out_lem rem ps).sides + spares_in (taken_out_lem rem ps).polygons
+    → spares_in ps ≡ length (taken_out rem ps).sides + spares_in (taken_out rem ps).polygons
 spares_opened rem ps long h =
     total_perm spare_of t.perm ∙ total_append spare_of t.gone out.polygons
     ∙ ap (λ (n : ℕ). n + spares_in out.polygons) (total_same spare_of (λ p. length (untouched rem p)) (spare_once rem) gone_once
     ∙ sym (length_gather (untouched rem) t.gone) ∙ ap length (sym t.sides))
   where
     out : TakingOut
-    out = taken_out_lem rem ps
+    out = taken_out rem ps
 
     t : TookOut rem ps [] out
     t = took_out rem ps
@@ -146,7 +146,7 @@ seen_area : (vs : List Vertex) (nvp rem : ℕ) (p : Polygon) → Good (Below (le
 unfolding on_side polygon_area points_of
 seen_area vs nvp rem p k = sym (area_untouched (place_of vs) rem p (omega (arith, k.long)))
 
-pub opened : (vs : List Vertex) (nvp rem : ℕ) (ps : List Polygon) → All (Good (Below (length vs)) nvp) ps → Opened vs nvp rem ps (taken_out_lem rem ps)
+pub opened : (vs : List Vertex) (nvp rem : ℕ) (ps : List Polygon) → All (Good (Below (length vs)) nvp) ps → Opened vs nvp rem ps (taken_out rem ps)
 opened vs nvp rem ps good = record {
   areas = sum_perm (polygon_area vs) t.perm ∙ sum_append (polygon_area vs) t.gone out.polygons
       ∙ ap (λ (z : ℤ). z +ℤ area_of vs out.polygons) (sum_same (polygon_area vs) (λ p. sum_of g (untouched rem p)) (seen_area vs nvp rem) gone_good
@@ -158,7 +158,7 @@ opened vs nvp rem ps good = record {
 }
   where
     out : TakingOut
-    out = taken_out_lem rem ps
+    out = taken_out rem ps
 
     t : TookOut rem ps [] out
     t = took_out rem ps
@@ -400,15 +400,15 @@ removable rem ps e =
       used = eqb-true (length (walk sides).rest) 0 (and_right c d (and_right b (c && d) f));
     }
 
-pub length_sides : (rem : ℕ) (ps : List Polygon) → length (sides_left rem ps) ≡ length (taken_out_lem rem ps).sides
+pub length_sides : (rem : ℕ) (ps : List Polygon) → length (sides_left rem ps) ≡ length (taken_out rem ps).sides
 unfolding sides_left
-length_sides rem ps = length-map (taken_out_lem rem ps).sides (dropped_side rem)
+length_sides rem ps = length-map (taken_out rem ps).sides (dropped_side rem)
 
 -- no more sides than corners beyond two
 pub sides_few : (rem : ℕ) (ps : List Polygon) → All Long ps → held_once rem ps ≡ true → length (sides_left rem ps) ≤ spares_in ps
 sides_few rem ps long h = omega (arith, length_sides rem ps, spares_opened rem ps long h)
 
-pub chain_counts : (rem : ℕ) (ps : List Polygon) → Removable rem ps → length (walk (sides_left rem ps)).chain ≡ suc (length (taken_out_lem rem ps).sides)
+pub chain_counts : (rem : ℕ) (ps : List Polygon) → Removable rem ps → length (walk (sides_left rem ps)).chain ≡ suc (length (taken_out rem ps).sides)
 chain_counts rem ps may = chain_length (sides_left rem ps) (omega (arith, may.many)) may.used ∙ ap suc (length_sides rem ps)
 
 -- the sum: k stays, the sides s are the hole's area h and what is lost, l
@@ -468,7 +468,7 @@ corners_filled : (nvp rem : ℕ) (m : Mesh) (ts : List (List ℕ)) → 3 ≤ nvp
 unfolding polygons_left
 corners_filled nvp rem m ts three long may cut =
     let c = chain nvp rem m in
-    let out = taken_out_lem rem m.polygons in
+    let out = taken_out rem m.polygons in
     let took = took_out rem m.polygons in
     let n = chain_counts rem m.polygons may in
     let l = length_sides rem m.polygons in
@@ -502,7 +502,7 @@ step_filled : (nvp rem : ℕ) (m : Mesh) (ts : List (List ℕ)) → 3 ≤ nvp �
 unfolding polygons_left sides_left mesh_area area_taken
 step_filled nvp rem m ts three here sound few may cut =
     let ps = m.polygons in
-    let out = taken_out_lem rem ps in
+    let out = taken_out rem ps in
     let c = chain nvp rem m in
     let vs = new nvp rem m in
     let v = place_of m.vertices rem in

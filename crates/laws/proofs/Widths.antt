@@ -16,7 +16,7 @@ use Rattle.rules.specs.Lists.{swap_remove, without}
 use Rattle.rules.specs.Weld.{no_vertex, Welded, add_vertex, weld_one, weld_all, number_of}
 use Rattle.rules.specs.Mesh.{Polygon, no_polygon, polygon_at, Mesh}
 use Rattle.rules.specs.Merge.{best_pair, joined, join_pair, merge_loop, merge_all}
-use Rattle.rules.specs.Removal.{no_side, no_point, untouched_side, side_into, untouched, TakingOut, take_one, taken_out_lem, dropped_in, dropped_side, polygons_left, sides_left, holds, Walk, brought_by, Fit, front, back, neither, walk_by, walk_one, walk_once, walk_start, walk, is_closed, hole_of, hole_triangle, Removal, gone, remove_vertex}
+use Rattle.rules.specs.Removal.{no_side, no_point, untouched_side, side_into, untouched, TakingOut, take_one, taken_out, dropped_in, dropped_side, polygons_left, sides_left, holds, Walk, brought_by, Fit, front, back, neither, walk_by, walk_one, walk_once, walk_start, walk, is_closed, hole_of, hole_triangle, Removal, gone, remove_vertex}
 use Rattle.rules.specs.Links.{none, links_of}
 use Rattle.rules.specs.Job.{Job, vertex_at, contour_vertices, count_t, count_v}
 use Rattle.rules.specs.Checks.{Lent}
@@ -150,18 +150,18 @@ take_tagged rem s h =
       | false ↦ record { polygons = h.polygons; sides = h.sides }
     ]
 
-out_tagged : (rem : ℕ) (ps : List Polygon) → Every Tagged no_polygon ps → TaggedOut (taken_out_lem rem ps)
-unfolding taken_out_lem
+out_tagged : (rem : ℕ) (ps : List Polygon) → Every Tagged no_polygon ps → TaggedOut (taken_out rem ps)
+unfolding taken_out
 out_tagged rem ps h = times_ind (take_one rem) TaggedOut (take_tagged rem) (length ps) (record { polygons = ps; sides = []; at = 0 })
     (record { polygons = h; sides = every_nil TaggedSide no_side no_tag })
 
 left_tagged : (rem : ℕ) (ps : List Polygon) → Every Tagged no_polygon ps → Every Tagged no_polygon (polygons_left rem ps)
 unfolding polygons_left dropped_in
-left_tagged rem ps h = every_map Tagged no_polygon Tagged no_polygon (dropped_in rem) (taken_out_lem rem ps).polygons no_tag (λ p t. t) (out_tagged rem ps h).polygons
+left_tagged rem ps h = every_map Tagged no_polygon Tagged no_polygon (dropped_in rem) (taken_out rem ps).polygons no_tag (λ p t. t) (out_tagged rem ps h).polygons
 
 sides_tagged : (rem : ℕ) (ps : List Polygon) → Every Tagged no_polygon ps → Every TaggedSide no_side (sides_left rem ps)
 unfolding sides_left dropped_side
-sides_tagged rem ps h = every_map TaggedSide no_side TaggedSide no_side (dropped_side rem) (taken_out_lem rem ps).sides no_tag (λ s t. t) (out_tagged rem ps h).sides
+sides_tagged rem ps h = every_map TaggedSide no_side TaggedSide no_side (dropped_side rem) (taken_out rem ps).sides no_tag (λ s t. t) (out_tagged rem ps h).sides
 
 record TaggedWalk (w : Walk) : Type 0 where
   chain : Every TaggedPoint no_point w.chain

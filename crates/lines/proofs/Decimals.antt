@@ -9,7 +9,7 @@ use native.Mathlib.Omega.{arith}
 use lib.Dec.{eqb, leb}
 use lib.ListN.{length, drop, get_or, drop_of_length-le}
 use borrow.Author.Tests.{eq-eqb, ne_eqb, le-leb, lt-leb}
-use Rattle.rules.specs.Lines.{is_empty, is_digit_lem, are_digits, is_decimal, value_from, decimal_in}
+use Rattle.rules.specs.Lines.{is_empty, is_digit, are_digits, is_decimal, value_from, decimal_in}
 use Rattle.rules.specs.declared.Decimal.{Decimal}
 use Rattle.rules.specs.declared.Decimal.TheVariants.{Value, Malformed}
 use Rattle.lines.proofs.Scanning.{drop_next}
@@ -28,24 +28,24 @@ module _ (least most v : ℕ) where
   unfolding rest_in
   rest_large ds h = rw (lt-leb (value_from v ds) most (omega (arith, value_most v ds)), and-false, and-false) refl
 
-  rest_other : (c : ℕ) (cs : List ℕ) → is_digit_lem c ≡ false → rest_in least most v (c ∷ cs) ≡ Malformed
+  rest_other : (c : ℕ) (cs : List ℕ) → is_digit c ≡ false → rest_in least most v (c ∷ cs) ≡ Malformed
   unfolding rest_in are_digits
   rest_other c cs e = rw (e, are_digits) refl
 
-  rest_digit : (c : ℕ) (cs : List ℕ) → is_digit_lem c ≡ true → rest_in least most v (c ∷ cs) ≡ rest_in least most (v * 10 + (c - 48)) cs
+  rest_digit : (c : ℕ) (cs : List ℕ) → is_digit c ≡ true → rest_in least most v (c ∷ cs) ≡ rest_in least most (v * 10 + (c - 48)) cs
   unfolding rest_in are_digits value_from
   rest_digit c cs e = rw (e, are_digits) refl
 
-is_digit_lem : (c : ℕ) → 48 ≤ c → c ≤ 57 → is_digit_lem c ≡ true
-unfolding is_digit_lem
+is_digit_lem : (c : ℕ) → 48 ≤ c → c ≤ 57 → is_digit c ≡ true
+unfolding is_digit
 is_digit_lem c a b = rw (le-leb 48 c a, le-leb c 57 b) refl
 
-pub below_digits : (c : ℕ) → c < 48 → is_digit_lem c ≡ false
-unfolding is_digit_lem
+pub below_digits : (c : ℕ) → c < 48 → is_digit c ≡ false
+unfolding is_digit
 below_digits c h = rw (lt-leb 48 c h) refl
 
-pub above_digits : (c : ℕ) → 57 < c → is_digit_lem c ≡ false
-unfolding is_digit_lem
+pub above_digits : (c : ℕ) → 57 < c → is_digit c ≡ false
+unfolding is_digit
 above_digits c h = rw (lt-leb c 57 h) (and-false (leb 48 c))
 
 pub record Reading (least most : ℕ) (cell : List ℕ) (v i : ℕ) : Type 0 where
@@ -78,7 +78,7 @@ module _ (least most : ℕ) where
 
 module _ {least most : ℕ} {cell : List ℕ} {v i : ℕ} (r : Reading least most cell v i) where
   module _ (h : i < length cell) where
-    pub reading_other : is_digit_lem (get_or cell i 0) ≡ false → decimal_in least most cell ≡ Malformed
+    pub reading_other : is_digit (get_or cell i 0) ≡ false → decimal_in least most cell ≡ Malformed
     reading_other e = r.same ∙ ap (rest_in least most v) (drop_next cell i h) ∙ rest_other least most v (get_or cell i 0) (drop (i + 1) cell) e
 
     module _ (a : 48 ≤ get_or cell i 0) (b : get_or cell i 0 ≤ 57) where

@@ -17,7 +17,7 @@ use Rattle.rules.specs.Lines.{tab_byte, is_same_text, parts, Line, decimal_in, N
 use Rattle.rules.specs.declared.Decimal.{Decimal}
 use Rattle.rules.specs.declared.Decimal.TheVariants.{Value, Malformed}
 use Rattle.lines.specs.Scan.{place_of, parts_some}
-use Rattle.lines.specs.Read.{are_numbers, good_in, good_of_lem, RowRead, four_of}
+use Rattle.lines.specs.Read.{are_numbers, good_in, good_of, RowRead, four_of}
 use Rattle.lines.specs.Taken.{row_good}
 use Rattle.lines.proofs.Scanning.{drop_next}
 use Rattle.lines.proofs.Counting.{cells_from, cells_more, cells_end, first_cell}
@@ -69,7 +69,7 @@ in_over least (c ∷ cs) h = refl
 pub record Numbering (line name : List ℕ) (least : ℕ) (mosts v values : List ℕ) (at i : ℕ) : Type 0 where
   pub ns : List ℕ
   pub same : numbers_of name least mosts (parts tab_byte line) ≡ with_numbers ns (numbers_in least (drop i mosts) (cells_from line at))
-  pub found : good_of_lem name least mosts (parts tab_byte line) ≡ ns ++ good_in least (drop i mosts) (cells_from line at)
+  pub found : good_of name least mosts (parts tab_byte line) ≡ ns ++ good_in least (drop i mosts) (cells_from line at)
   pub put : values ≡ splice v 0 ns
   pub count : length ns ≡ i
   pub long : length values ≡ length v
@@ -77,7 +77,7 @@ pub record Numbering (line name : List ℕ) (least : ℕ) (mosts v values : List
 
 -- a line that is not good, with these numbers up to its first bad cell
 row_none : (line name : List ℕ) (least : ℕ) (mosts : List ℕ) {v values : List ℕ} (ns : List ℕ) → numbers_of name least mosts (parts tab_byte line) ≡ malformed
-    → good_of_lem name least mosts (parts tab_byte line) ≡ ns → values ≡ splice v 0 ns → RowRead name least mosts (parts tab_byte line) false v values
+    → good_of name least mosts (parts tab_byte line) ≡ ns → values ≡ splice v 0 ns → RowRead name least mosts (parts tab_byte line) false v values
 unfolding are_numbers
 row_none line name least mosts {v} ns e g p = record { good = rw e refl; put = p ∙ ap (splice v 0) (sym g) }
 
@@ -87,17 +87,17 @@ module _ (line name : List ℕ) (least : ℕ) (mosts v : List ℕ) {at : ℕ} (e
 
   -- the first cell is another name
   pub other_name : {t : Bool} → t ≡ is_same_text (take at line) name → t ≡ false → RowRead name least mosts (parts tab_byte line) false v v
-  unfolding numbers_of good_of_lem
+  unfolding numbers_of good_of
   other_name q f =
       row_none line name least mosts [] (ap (numbers_of name least mosts) first ∙ rw (sym q ∙ f, numbers_of) refl)
-      (ap (good_of_lem name least mosts) first ∙ rw (sym q ∙ f, good_of_lem) refl) (sym (splice_nil v 0))
+      (ap (good_of name least mosts) first ∙ rw (sym q ∙ f, good_of) refl) (sym (splice_nil v 0))
 
   pub numbering_begin : {t : Bool} → t ≡ is_same_text (take at line) name → t ≡ true → at ≤ length line → Numbering line name least mosts v v at 0
-  unfolding numbers_of good_of_lem with_numbers
+  unfolding numbers_of good_of with_numbers
   numbering_begin q f h = record {
     ns = [];
     same = ap (numbers_of name least mosts) first ∙ rw (sym q ∙ f, numbers_of) refl;
-    found = ap (good_of_lem name least mosts) first ∙ rw (sym q ∙ f, good_of_lem) refl;
+    found = ap (good_of name least mosts) first ∙ rw (sym q ∙ f, good_of) refl;
     put = sym (splice_nil v 0);
     count = refl;
     long = refl;

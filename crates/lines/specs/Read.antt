@@ -24,9 +24,9 @@ good_in least (m ∷ ms) (c ∷ cs) = elim (decimal_in least m c) [
 ]
 
 -- the same of a line, whose first cell has to be this name
-unfoldable pub good_of_lem : List ℕ → ℕ → List ℕ → Line → List ℕ
-good_of_lem name least mosts [] = []
-good_of_lem name least mosts (c ∷ cs) = elim (is_same_text c name) [
+unfoldable pub good_of : List ℕ → ℕ → List ℕ → Line → List ℕ
+good_of name least mosts [] = []
+good_of name least mosts (c ∷ cs) = elim (is_same_text c name) [
   | true ↦ good_in least mosts cs
   | false ↦ []
 ]
@@ -34,7 +34,7 @@ good_of_lem name least mosts (c ∷ cs) = elim (is_same_text c name) [
 -- a line was read: whether it is good, and its numbers at the beginning of the words v, which became w
 pub record RowRead (name : List ℕ) (least : ℕ) (mosts : List ℕ) (l : Line) (r : Bool) (v w : List ℕ) : Type 0 where
   pub good : r ≡ are_numbers (numbers_of name least mosts l)
-  pub put : w ≡ splice v 0 (good_of_lem name least mosts l)
+  pub put : w ≡ splice v 0 (good_of name least mosts l)
 
 -- the last cell of a line begins at p
 pub record LastCell (line : List ℕ) (p : ℕ) : Type 0 where

@@ -15,7 +15,7 @@ use Rattle.rules.specs.declared.Decimal.{Decimal}
 use Rattle.rules.specs.declared.Decimal.TheVariants.{Value, Malformed}
 use Rattle.lines.specs.declared.line.LineRead.{LineRead}
 use Rattle.lines.specs.Scan.{place_of, part_next, part_last, parts_some}
-use Rattle.lines.specs.Read.{are_numbers, good_in, good_of_lem, RowRead, line_end, line_read, numbers_at}
+use Rattle.lines.specs.Read.{are_numbers, good_in, good_of, RowRead, line_end, line_read, numbers_at}
 
 -- ---- the line at a place of a text
 
@@ -171,8 +171,8 @@ good_in_lem least (m ∷ ms) (c ∷ cs) ns e = (elim (decimal_in least m c) as (
     ]) e
 
 pub good_all : (name : List ℕ) (least : ℕ) (mosts : List ℕ) (l : Line) (ns : List ℕ) → numbers_of name least mosts l ≡ numbers ns
-    → good_of_lem name least mosts l ≡ ns
-unfolding numbers_of good_of_lem
+    → good_of name least mosts l ≡ ns
+unfolding numbers_of good_of
 good_all name least mosts [] ns e = let z : ◌≡◌ {A = ℕ} 0 1 = cc in absurd (omega arith)
 good_all name least mosts (c ∷ cs) ns e = (elim (is_same_text c name) as (λ (t : Bool).
     elim t [ true ↦ numbers_in least mosts cs | false ↦ malformed ] ≡ numbers ns

@@ -13,7 +13,7 @@ use Rattle.mem.specs.Slice.{get_or_view}
 use Rattle.mem.specs.Chain.{highest, firsts_at, nexts_at}
 use Rattle.laws.specs.Searches.{found, Walk}
 use Rattle.laws.proofs.Searches.{walk_none, walk_in_lem, walk_found, walk_next, walk_less, found_in}
-use Rattle.rules.specs.Links.{no_edge, is_free_lem, newest}
+use Rattle.rules.specs.Links.{no_edge, is_free, newest}
 use Rattle.rules.specs.declared.Edge.{Edge}
 use Rattle.rules.specs.declared.Found.TheVariants.{At, Nothing}
 use Rattle.records.specs.Layout.{edges_at}
@@ -24,11 +24,11 @@ use Rattle.links.specs.Standing.{holds_now}
 
 -- record k is free
 abbrev pub free_at : ℕ → ℕ → List Edge → ℕ → Bool
-free_at low high es k = is_free_lem low high (get_or es k no_edge)
+free_at low high es k = is_free low high (get_or es k no_edge)
 
 -- a free record starts at the lower vertex
 starts : (low high : ℕ) (es : List Edge) (k : ℕ) → free_at low high es k ≡ true → low_of es k ≡ low
-unfolding is_free_lem low_of
+unfolding is_free low_of
 starts low high es k e =
     let f = get_or es k no_edge in
     eqb-true f.low low (and_left (eqb f.low low) (eqb f.high high && eqb f.other f.poly) e)
@@ -86,12 +86,12 @@ module _ (w : List ℕ) (t : EdgeTables) (nv ne : ℕ) (s : Edged w t nv ne) (lo
       pub search_in : link - 1 < ne
       search_in = walk_in_lem (free_at low high (edges_at w t.edges ne)) (low_of (edges_at w t.edges ne)) low (starts low high (edges_at w t.edges ne)) ne r.walk (link - 1) named
 
-      pub search_found : is_free_lem low high (get_or (edges_at w t.edges ne) (link - 1) no_edge) ≡ true → At (link - 1) ≡ newest low high (edges_at w t.edges ne)
+      pub search_found : is_free low high (get_or (edges_at w t.edges ne) (link - 1) no_edge) ≡ true → At (link - 1) ≡ newest low high (edges_at w t.edges ne)
       unfolding es
       search_found e = walk_found (free_at low high es) (low_of es) low (starts low high es) ne r.walk (link - 1) named e ∙ as_newest
 
       module _ {l : ℕ} (q : l ≡ get_or w (t.nexts + (link - 1)) 0) where
-        pub search_next : is_free_lem low high (get_or (edges_at w t.edges ne) (link - 1) no_edge) ≡ false → Search w t nv ne low high l
+        pub search_next : is_free low high (get_or (edges_at w t.edges ne) (link - 1) no_edge) ≡ false → Search w t nv ne low high l
         unfolding es
         search_next e = record { walk = walk_next (free_at low high es) (low_of es) low (starts low high es) ne r.walk (link - 1) named (word search_in q) e }
 
@@ -100,8 +100,8 @@ module _ (w : List ℕ) (t : EdgeTables) (nv ne : ℕ) (s : Edged w t nv ne) (lo
         search_less = walk_less (free_at low high es) (low_of es) low (starts low high es) ne r.walk (link - 1) named (word search_in q)
 
 -- the test on a record in hand
-pub free_made : (low high : ℕ) {e f : Edge} {b t : Bool} → e ≡ f → b ≡ is_free_lem low high e → b ≡ t → is_free_lem low high f ≡ t
-free_made low high p q r = ap (is_free_lem low high) (sym p) ∙ sym q ∙ r
+pub free_made : (low high : ℕ) {e f : Edge} {b t : Bool} → e ≡ f → b ≡ is_free low high e → b ≡ t → is_free low high f ≡ t
+free_made low high p q r = ap (is_free low high) (sym p) ∙ sym q ∙ r
 
 -- what is found is one of the records
 pub newest_in : (low high : ℕ) (es : List Edge) (k : ℕ) → At k ≡ newest low high es → k < length es

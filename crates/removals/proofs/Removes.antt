@@ -33,7 +33,7 @@ use Rattle.records.specs.Polygons.{length_polygons, length_records, records_appe
 use Rattle.records.specs.Blanks.{blanks_small}
 use Rattle.records.specs.Fixed.{point_fixed, fixed_length}
 use Rattle.trails.specs.Trails.{walk_room}
-use Rattle.holes.specs.Fill.{FillReady, hole_polygons, filled_of, filled_in_lem}
+use Rattle.holes.specs.Fill.{FillReady, hole_polygons, filled_of, filled_in}
 use Rattle.holes.specs.declared.fill.Filled.{Filled}
 use Rattle.holes.specs.declared.fill.Filled.TheVariants.{Polygons, NoEars}
 use Rattle.removals.specs.declared.site.Site.{Site}
@@ -206,7 +206,7 @@ module _ {w : List ℕ} {s : Site} {n : Counts} {nvp rem : ℕ} (r : RemoveReady
   -- ---- and what it is filled with
 
   module _ {y : List ℕ}
-      (e : y ≡ filled_in_lem u (vertices_at u s.vertices (n.vertices - 1)) nvp (s.polygons + h.left * polygon_size) (s.scratch + s.t * walk_room) (points_at u s.scratch h.points)
+      (e : y ≡ filled_in u (vertices_at u s.vertices (n.vertices - 1)) nvp (s.polygons + h.left * polygon_size) (s.scratch + s.t * walk_room) (points_at u s.scratch h.points)
       (triangulate (places_of (vertices_at u s.vertices (n.vertices - 1)) (points_at u s.scratch h.points)))) where
     -- no ear to cut
     module _ (a : NoEars ≡ filled_of (vertices_at u s.vertices (n.vertices - 1)) nvp (points_at u s.scratch h.points)
@@ -219,7 +219,7 @@ module _ {w : List ℕ} {s : Site} {n : Counts} {nvp rem : ℕ} (r : RemoveReady
       nothing = rw none.is
 
       empty_stage : Stage w s y (vertex_records vs ms) (polygon_records (pl ++ bl)) (point_records hole)
-      unfolding filled_in_lem
+      unfolding filled_in
       empty_stage =
           let d = rw (read_vertices, read_points, none.is) at e in
           let i = fixed_length point_fixed hole in
@@ -308,7 +308,7 @@ module _ {w : List ℕ} {s : Site} {n : Counts} {nvp rem : ℕ} (r : RemoveReady
 
       -- the words that were written
       filled_in_lem : y ≡ splice (splice u (s.polygons + h.left * polygon_size) (polygon_records (hp ++ kl))) (s.scratch + s.t * walk_room) (replicate (length hole * 6 - 6) 0)
-      unfolding filled_in_lem hp kl
+      unfolding filled_in hp kl
       filled_in_lem = rw (read_vertices, read_points, some.is) at e
 
       size_rest : length (P ++ ((H ++ K) ++ rest)) ≤ s.t * polygon_size

@@ -6,7 +6,7 @@ use Rattle.rules.specs.Plane.{on_plane}
 use Rattle.rules.specs.Ears.{Ears, done, stuck, indices, mark_all, find_ear, cut_ear, triangle_at, cut_all, triangulate}
 use Rattle.rules.specs.Mesh.{Polygon, Mesh, no_mesh}
 use Rattle.rules.specs.Merge.{best_pair, join_pair, merge_loop, merge_all}
-use Rattle.rules.specs.Removal.{TakingOut, take_one, taken_out_lem, Walk, walk_one, walk_once, walk, Removal, gone, no_ears, remove_vertex, Removals, removed, stuck_at, goes, remove_from, remove_all}
+use Rattle.rules.specs.Removal.{TakingOut, take_one, taken_out, Walk, walk_one, walk_once, walk, Removal, gone, no_ears, remove_vertex, Removals, removed, stuck_at, goes, remove_from, remove_all}
 use Rattle.rules.specs.Job.{Job, contour_vertices, contour_flags}
 use Rattle.rules.specs.Build.{Contours, added, no_ear_in, weld_height, add_contour, add_from, add_all}
 use Rattle.rules.specs.declared.Point.{Point}
@@ -51,7 +51,7 @@ pub record Taking (rem : ℕ) (s : TakingOut) : Type 0 where
   pub end : length s.polygons ≤ s.at → taking rem s ≡ s
 
 abbrev pub TakenOut : Type 0
-TakenOut = (rem : ℕ) (ps : List Polygon) → taken_out_lem rem ps ≡ taking rem (record { polygons = ps; sides = []; at = 0 })
+TakenOut = (rem : ℕ) (ps : List Polygon) → taken_out rem ps ≡ taking rem (record { polygons = ps; sides = []; at = 0 })
 
 -- ---- R5: the walk "goes over the sides"
 

@@ -62,12 +62,12 @@ lines_of text = whole_lines (parts lf text)
 -- ---- decimals that are read
 
 -- `0` to `9` are the bytes 48 to 57
-unfoldable pub is_digit_lem : ℕ → Bool
-is_digit_lem c = leb 48 c && leb c 57
+unfoldable pub is_digit : ℕ → Bool
+is_digit c = leb 48 c && leb c 57
 
 unfoldable pub are_digits : List ℕ → Bool
 are_digits [] = true
-are_digits (c ∷ cs) = is_digit_lem c && are_digits cs
+are_digits (c ∷ cs) = is_digit c && are_digits cs
 
 -- "decimals without leading zeros": digits, at least one, and a 0 in front only if it is all
 unfoldable pub is_decimal : List ℕ → Bool

@@ -26,12 +26,12 @@ record_side ps i j es =
     cond (ltb a b) (es ++ (record { low = a; high = b; poly = i; side = j; other = i; at = 0 } ∷ [])) es
 
 -- a record of a side from low to high "not yet joined to another polygon"
-unfoldable pub is_free_lem : ℕ → ℕ → Edge → Bool
-is_free_lem low high e = eqb e.low low && (eqb e.high high && eqb e.other e.poly)
+unfoldable pub is_free : ℕ → ℕ → Edge → Bool
+is_free low high e = eqb e.low low && (eqb e.high high && eqb e.other e.poly)
 
 -- "the newest record not yet joined"
 unfoldable pub newest : ℕ → ℕ → List Edge → Found
-newest low high es = down Nothing or_else (λ k. when (is_free_lem low high (get_or es k no_edge)) k) (length es)
+newest low high es = down Nothing or_else (λ k. when (is_free low high (get_or es k no_edge)) k) (length es)
 
 -- the record joined to side j of polygon i
 unfoldable pub joined_to : ℕ → ℕ → Edge → Edge

@@ -51,8 +51,8 @@ take_one rem s =
     ]
 
 -- "Polygons are looked at from 0 up.": each once, and so as often as there are polygons (`Fuel`)
-unfoldable pub taken_out_lem : ℕ → List Polygon → TakingOut
-taken_out_lem rem ps = times (take_one rem) (length ps) (record { polygons = ps; sides = []; at = 0 })
+unfoldable pub taken_out : ℕ → List Polygon → TakingOut
+taken_out rem ps = times (take_one rem) (length ps) (record { polygons = ps; sides = []; at = 0 })
 
 -- "Higher vertex numbers drop by 1."
 unfoldable pub dropped : ℕ → ℕ → ℕ
@@ -66,10 +66,10 @@ dropped_side rem s = record { start = dropped rem s.start; end = dropped rem s.e
 
 -- what stays of the polygons, and the sides that the others gave, in the numbers that hold once the vertex has gone
 unfoldable pub polygons_left : ℕ → List Polygon → List Polygon
-polygons_left rem ps = map (dropped_in rem) (taken_out_lem rem ps).polygons
+polygons_left rem ps = map (dropped_in rem) (taken_out rem ps).polygons
 
 unfoldable pub sides_left : ℕ → List Polygon → List Side
-sides_left rem ps = map (dropped_side rem) (taken_out_lem rem ps).sides
+sides_left rem ps = map (dropped_side rem) (taken_out rem ps).sides
 
 -- ---- the walk
 

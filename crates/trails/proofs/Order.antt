@@ -16,7 +16,7 @@ use Rattle.mem.specs.Loops.{times, times_ind}
 use Rattle.mem.specs.Packed.{every_at}
 use Rattle.rules.specs.Lists.{swap_remove}
 use Rattle.rules.specs.Mesh.{Polygon, no_polygon, polygon_at}
-use Rattle.rules.specs.Removal.{holds, untouched, TakingOut, take_one, taken_out_lem, sides_left}
+use Rattle.rules.specs.Removal.{holds, untouched, TakingOut, take_one, taken_out, sides_left}
 use Rattle.rules.specs.Fuel.{taking}
 use Rattle.laws.proofs.Lists.{swap_length}
 use Rattle.laws.proofs.Removal.{length_sides}
@@ -72,7 +72,7 @@ grows rem f s =
 -- ---- m of the polygons ps are left, polygon k stands at place i of them, and n sides are written at q: R5 from there on gives the whole
 pub record Collecting (rem : ℕ) (ps : List Polygon) (v w : List ℕ) (q n m i k : ℕ) : Type 0 where
   pub state : TakingOut
-  pub same : taken_out_lem rem ps ≡ taking rem state
+  pub same : taken_out rem ps ≡ taking rem state
   pub place : state.at ≡ i
   pub many : length state.polygons ≡ m
   pub here : i < m → polygon_at state.polygons i ≡ polygon_at ps k
@@ -82,9 +82,9 @@ pub record Collecting (rem : ℕ) (ps : List Polygon) (v w : List ℕ) (q n m i 
   pub number : i < m → k < length ps
   pub laid : Laid rem state.sides v w q n
   pub long : length w ≡ length v
-  pub room : q + length (taken_out_lem rem ps).sides * side_size ≤ length v
+  pub room : q + length (taken_out rem ps).sides * side_size ≤ length v
 
-pub collecting_none : (rem : ℕ) (ps : List Polygon) (v : List ℕ) (q m : ℕ) → length ps ≡ m → q + length (taken_out_lem rem ps).sides * side_size ≤ length v
+pub collecting_none : (rem : ℕ) (ps : List Polygon) (v : List ℕ) (q m : ℕ) → length ps ≡ m → q + length (taken_out rem ps).sides * side_size ≤ length v
     → Collecting rem ps v v q 0 m 0 0
 collecting_none rem ps v q m e r = record {
   state = record { polygons = ps; sides = []; at = 0 };
@@ -102,7 +102,7 @@ collecting_none rem ps v q m e r = record {
 }
 
 module _ {rem : ℕ} {ps : List Polygon} {v w : List ℕ} {q n m i k : ℕ} (c : Collecting rem ps v w q n m i k) (h : i < m) where
-  looked : taken_out_lem rem ps ≡ taking rem (take_one rem c.state)
+  looked : taken_out rem ps ≡ taking rem (take_one rem c.state)
   looked = c.same ∙ (taking_turns rem c.state).look (omega (arith, c.place, c.many))
 
   -- the polygon looked at is number k
@@ -121,7 +121,7 @@ module _ {rem : ℕ} {ps : List Polygon} {v w : List ℕ} {q n m i k : ℕ} (c :
     unfolding after
     to_after = take_held rem c.state (rw is_k e) ∙ rw (is_p, c.place) refl
 
-    taken : taken_out_lem rem ps ≡ taking rem after
+    taken : taken_out rem ps ≡ taking rem after
     taken = looked ∙ ap (λ (t : TakingOut). taking rem t) to_after
 
     pub collecting_room : q + n * side_size + length (untouched rem (polygon_of p)) * side_size ≤ length w
@@ -215,7 +215,7 @@ module _ {w : List ℕ} {o np q rem : ℕ} (r : CollectReady w o np q rem) where
     unfolding sides_left dropped_words
     collecting_end h =
         let ps = polygons_at w o np in
-        let e : taken_out_lem rem ps ≡ c.state = c.same ∙ (taking_turns rem c.state).end (omega (arith, c.place, c.many)) in
+        let e : taken_out rem ps ≡ c.state = c.same ∙ (taking_turns rem c.state).end (omega (arith, c.place, c.many)) in
         let many : n ≡ length (sides_left rem ps) = c.laid.count ∙ ap (λ (t : TakingOut). length t.sides) (sym e) ∙ sym (length_sides rem ps) in
         let put : u ≡ splice w q (side_records (sides_left rem ps)) = c.laid.is ∙ ap (λ (t : TakingOut). splice w q (dropped_words rem t.sides)) (sym e) in
         record {

@@ -1,9 +1,9 @@
 -- `links::edges::is_free` meets its contract: the three tests are the rules'. Assumes nothing.
 use mathlib.Core.Path.{refl}
-use Rattle.rules.specs.Links.{is_free_lem}
+use Rattle.rules.specs.Links.{is_free}
 use Rattle.links.proofs.edges.is_free.Goals as goal
 
 -- src/edges.rt:36:1
 pub returns : goal.returns
-unfolding is_free_lem
+unfolding is_free
 returns c = refl
