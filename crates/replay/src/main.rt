@@ -50,10 +50,13 @@ fn answer_all(rt: &impl Print, text: &[u8]) -> io::Result<()> {
     Ok(())
 }
 
-// The answers to all sheets of a file; where it can't be read, standard error says so.
+// What is read of a file, in bytes at most.
+const FILE_MOST: usize = 524288;
+
+// The answers to all sheets of a file, as far as it is read; where it can't be read, standard error says so.
 fn replay(rt: &(impl Files + Print + Eprint + AllocGlobal), name: &str) -> io::Result<()> {
     match fs::read(rt, name) {
-        Ok(text) => answer_all(rt, &text),
+        Ok(text) => answer_all(rt, &text[..text.len().min(FILE_MOST)]),
         Err(error) => eprintln!(rt; "{name}: {error}"),
     }
 }
