@@ -1,12 +1,11 @@
 -- Loops that test place after place: all pass, some place does, or the first at fault is looked for. As long as nothing is decided, the answer of the whole is
 -- that of the places that are left. Assumes nothing.
+use Rattle.std.specs.Prelude.{Option, Some, None}
 use mathlib.Core.Path.{◌≡◌, refl, sym, ◌∙◌}
 use mathlib.Core.Bool.{Bool, true, false, not, ◌&&◌, ◌||◌}
 use Prim.Native.Nat.{ℕ, ◌+◌, ◌≤◌, ◌<◌}
 use Rattle.mem.specs.Loops.{Left, turn, next, end}
 use Rattle.rules.specs.Lists.{when, or_else}
-use Rattle.rules.specs.declared.Found.{Found}
-use Rattle.rules.specs.declared.Found.TheVariants.{At, Nothing}
 use Rattle.rules.specs.Handed.{all_of, any_of, first_fault}
 
 -- ---- all pass
@@ -49,21 +48,21 @@ module _ {test : ℕ → Bool} {whole : Bool} {n k : ℕ} (l : Seeking test whol
 
 -- ---- the first at fault
 
-pub record Faultless (good : ℕ → Bool) (whole : Found) (n k : ℕ) : Type 0 where
-  pub left : Left Nothing or_else (λ i. when (not (good i)) i) (λ f. f) whole n k
+pub record Faultless (good : ℕ → Bool) (whole : Option ℕ) (n k : ℕ) : Type 0 where
+  pub left : Left None or_else (λ i. when (not (good i)) i) (λ f. f) whole n k
 
 pub fault_begin : (good : ℕ → Bool) (n : ℕ) → Faultless good (first_fault good n) n 0
 unfolding first_fault
 fault_begin good n = record { left = record { same = refl } }
 
-module _ {good : ℕ → Bool} {whole : Found} {n k : ℕ} (l : Faultless good whole n k) where
+module _ {good : ℕ → Bool} {whole : Option ℕ} {n k : ℕ} (l : Faultless good whole n k) where
   pub fault_next : k < n → good k ≡ true → Faultless good whole n (k + 1)
   unfolding when or_else
   fault_next h e = record { left = next l.left h (λ r. rw e refl) }
 
-  pub fault_here : k < n → good k ≡ false → At k ≡ whole
+  pub fault_here : k < n → good k ≡ false → Some k ≡ whole
   unfolding when or_else
   fault_here h e = sym (turn l.left h ∙ rw e refl)
 
-  pub fault_end : n ≤ k → Nothing ≡ whole
+  pub fault_end : n ≤ k → None ≡ whole
   fault_end h = sym (end l.left h)

@@ -1,4 +1,5 @@
 -- 41: the words of a polygon, each way out of their test; and the words past its last corner, which are tested in a row that is lent. Assumes nothing.
+use Rattle.std.specs.Prelude.{None}
 use mathlib.Core.Path.{◌≡◌, refl, ap}
 use mathlib.Core.Bool.{Bool, true, false, not, ◌&&◌}
 use mathlib.Core.List.{List}
@@ -12,7 +13,6 @@ use Rattle.mem.specs.Loops.{over_cong, block_fits}
 use Rattle.rules.specs.Lists.{when, or_else}
 use Rattle.rules.specs.Links.{none}
 use Rattle.rules.specs.Exits.{up_to_none}
-use Rattle.rules.specs.declared.Found.TheVariants.{Nothing}
 use Rattle.rules.specs.Handed.{Handed, vertex_count, polygon_count, corner_word, all_of, first_fault, corners_hold}
 use Rattle.laws.proofs.HandedWords.{up_to_few, corners_read}
 use Rattle.checker.specs.Steps.{row_at, unused_from, row_holds}
@@ -59,6 +59,6 @@ module _ (m : Handed) (fits : polygon_count m * m.nvp ≤ length m.polygons) whe
   pub first_row : first_fault (λ i. row_holds (vertex_count m) (row_at m.nvp m.polygons i)) (polygon_count m) ≡ first_fault (corners_hold m) (polygon_count m)
   unfolding first_fault
   first_row =
-      over_cong Nothing or_else (λ i. when (not (row_holds (vertex_count m) (row_at m.nvp m.polygons i))) i) (λ i. when (not (corners_hold m i)) i)
+      over_cong None or_else (λ i. when (not (row_holds (vertex_count m) (row_at m.nvp m.polygons i))) i) (λ i. when (not (corners_hold m i)) i)
       0 (polygon_count m)
       (λ i a h. ap (λ (t : Bool). when (not t) i) (row_is i h))

@@ -1,5 +1,6 @@
 -- The order of the refusals: what each search finds is what the rules' order asks for, and the buffers that a search doesn't see don't matter to it.
 -- Assumes nothing.
+use Rattle.std.specs.Prelude.{Option, Some, None, Result, Ok, Err, ⊤}
 use mathlib.Core.Path.{◌≡◌, refl, sym, ◌∙◌, ap}
 use mathlib.Core.Bool.{Bool, true, false, not, cond}
 use mathlib.Core.Logic.{◌≢◌}
@@ -17,12 +18,8 @@ use Rattle.rules.specs.Plane.{is_zero}
 use Rattle.rules.specs.Checks.{vertex_stride}
 use Rattle.rules.specs.Exits.{up_to_none, stored_polygon, stored_links, decoded}
 use Rattle.rules.specs.Areas.{stored_area}
-use Rattle.rules.specs.declared.Found.{Found}
-use Rattle.rules.specs.declared.Found.TheVariants.{At, Nothing}
 use Rattle.rules.specs.declared.Fault.{Fault}
 use Rattle.rules.specs.declared.Fault.TheVariants.{BadLinks}
-use Rattle.rules.specs.declared.Soundness.{Soundness}
-use Rattle.rules.specs.declared.Soundness.TheVariants.{Sound, Broken}
 use Rattle.rules.specs.declared.Verdict.{Verdict}
 use Rattle.rules.specs.declared.Verdict.TheVariants.{Accepted, Unsound, BadPortals, BadArea}
 use Rattle.rules.specs.Handed.{vertex_count, polygon_count, buffers_of, mesh_in, link_word, corners_at, first_fault, corners_hold}
@@ -38,12 +35,12 @@ use Rattle.checker.proofs.Rows.{first_row}
 
 -- ---- the first fault, or the rest
 
-module _ (fault : ℕ → Fault) (rest : Soundness) {f g : Found} (e : f ≡ g) where
-  pub fault_found : {i : ℕ} → f ≡ At i → Broken (fault i) ≡ or_fault fault g rest
+module _ (fault : ℕ → Fault) (rest : Result ⊤ Fault) {f g : Option ℕ} (e : f ≡ g) where
+  pub fault_found : {i : ℕ} → f ≡ Some i → Err (fault i) ≡ or_fault fault g rest
   unfolding or_fault
   fault_found q = rw (sym e ∙ q) refl
 
-  pub none_found : f ≡ Nothing → rest ≡ or_fault fault g rest
+  pub none_found : f ≡ None → rest ≡ or_fault fault g rest
   unfolding or_fault
   none_found q = rw (sym e ∙ q) refl
 
@@ -53,20 +50,20 @@ module _ (nvp : ℕ) (vs ps ls : List ℕ) where
   links_alone : (n : ℕ) → first_fault (links_hold (links_in nvp ps ls)) n ≡ first_fault (links_hold (handed_in nvp vs ps ls)) n
   unfolding first_fault links_hold link_holds link_word mesh_in decoded stored_polygon stored_links polygon_count
   links_alone n =
-      over_cong Nothing or_else (λ i. when (not (links_hold (links_in nvp ps ls) i)) i) (λ i. when (not (links_hold (handed_in nvp vs ps ls) i)) i) 0 n
+      over_cong None or_else (λ i. when (not (links_hold (links_in nvp ps ls) i)) i) (λ i. when (not (links_hold (handed_in nvp vs ps ls) i)) i) 0 n
       (λ i a h. refl)
 
-  pub links_then : {r : Soundness} → r ≡ or_fault BadLinks (first_fault (links_hold (links_in nvp ps ls)) (length ps / nvp)) Sound
-      → r ≡ or_fault BadLinks (first_fault (links_hold (handed_in nvp vs ps ls)) (polygon_count (handed_in nvp vs ps ls))) Sound
+  pub links_then : {r : Result ⊤ Fault} → r ≡ or_fault BadLinks (first_fault (links_hold (links_in nvp ps ls)) (length ps / nvp)) (Ok tt)
+      → r ≡ or_fault BadLinks (first_fault (links_hold (handed_in nvp vs ps ls)) (polygon_count (handed_in nvp vs ps ls))) (Ok tt)
   unfolding polygon_count
-  links_then e = e ∙ ap (λ (f : Found). or_fault BadLinks f Sound) (links_alone (length ps / nvp))
+  links_then e = e ∙ ap (λ (f : Option ℕ). or_fault BadLinks f (Ok tt)) (links_alone (length ps / nvp))
 
   module _ (g : GoodBuffers (handed_in nvp vs ps ls)) where
     pub rows_fit : length ps / nvp * nvp ≤ length ps
     unfolding polygon_count
     rows_fit = omega (arith, g.polygons)
 
-    pub corners_first : {f : Found} → f ≡ first_fault (λ i. row_holds (length vs / vertex_stride) (row_at nvp ps i)) (length ps / nvp)
+    pub corners_first : {f : Option ℕ} → f ≡ first_fault (λ i. row_holds (length vs / vertex_stride) (row_at nvp ps i)) (length ps / nvp)
         → f ≡ first_fault (corners_hold (handed_in nvp vs ps ls)) (polygon_count (handed_in nvp vs ps ls))
     unfolding vertex_count polygon_count
     corners_first e = e ∙ first_row (handed_in nvp vs ps ls) rows_fit
@@ -78,11 +75,11 @@ abbrev pub verdict_on : Claim → Verdict
 verdict_on c = sound_verdict c (first_fault (portals_hold c) (polygon_count c.mesh))
 
 module _ (nvp w h border : ℕ) (total : ℤ) (vs ps ls : List ℕ) where
-  pub portals_first : {f : Found} → f ≡ first_fault (portals_hold (unclaimed_in nvp w h border vs ps ls)) (length ps / nvp)
+  pub portals_first : {f : Option ℕ} → f ≡ first_fault (portals_hold (unclaimed_in nvp w h border vs ps ls)) (length ps / nvp)
       → f ≡ first_fault (portals_hold (claim_in nvp w h border total vs ps ls)) (polygon_count (handed_in nvp vs ps ls))
   unfolding first_fault portals_hold portal_holds polygon_count
   portals_first e =
-      e ∙ over_cong Nothing or_else (λ i. when (not (portals_hold (unclaimed_in nvp w h border vs ps ls) i)) i)
+      e ∙ over_cong None or_else (λ i. when (not (portals_hold (unclaimed_in nvp w h border vs ps ls) i)) i)
       (λ i. when (not (portals_hold (claim_in nvp w h border total vs ps ls) i)) i) 0 (length ps / nvp) (λ i a l. refl)
 
   -- the area that is measured
@@ -114,15 +111,15 @@ module _ {z d : ℤ} (claim : ℤ) (q : z ≡ d) where
       go true e = absurd (n (ap (of_z w64) (q ∙ equal_of d claim e)))
       go false e = refl
 
-pub portals_found : (c : Claim) {f g : Found} {i : ℕ} → f ≡ g → f ≡ At i → BadPortals i ≡ sound_verdict c g
+pub portals_found : (c : Claim) {f g : Option ℕ} {i : ℕ} → f ≡ g → f ≡ Some i → BadPortals i ≡ sound_verdict c g
 unfolding sound_verdict
 portals_found c e q = rw (sym e ∙ q) refl
 
-pub portals_none : (c : Claim) {f g : Found} {r : Verdict} → f ≡ g → f ≡ Nothing → r ≡ cond (area_holds c) Accepted BadArea → r ≡ sound_verdict c g
+pub portals_none : (c : Claim) {f g : Option ℕ} {r : Verdict} → f ≡ g → f ≡ None → r ≡ cond (area_holds c) Accepted BadArea → r ≡ sound_verdict c g
 unfolding sound_verdict
 portals_none c e q a = rw (sym e ∙ q) a
 
-pub unsound : (c : Claim) (f : Fault) → soundness c.mesh ≡ Broken f → Unsound f ≡ verdict c
+pub unsound : (c : Claim) (f : Fault) → soundness c.mesh ≡ Err f → Unsound f ≡ verdict c
 unfolding verdict
 unsound c f e = rw (e, verdict) refl
 

@@ -25,12 +25,10 @@ fn are_in_grid(vertices: &[u16], n: usize) -> bool
     requires { n * vertex_stride ≤ length vertices.now }
     ensures { result ≡ grid_holds vertices.now n }
 {
-    let mut k = 0;
-    while k < n {
+    for k in 0..n {
         if is_high(vertices, k) {
             return false;
         }
-        k += 1;
     }
     true
 }

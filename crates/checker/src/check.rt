@@ -1,11 +1,10 @@
 // The refusals in their order: 40 to 42, which say whether a mesh is sound, and then 43 and 44.
-ghost use Rattle.std.specs.Prelude.{◌≡◌, cond, ◌-ℤ◌};
+ghost use Rattle.std.specs.Prelude.{◌≡◌, cond, ◌-ℤ◌, Ok};
 ghost use Rattle.rules.specs.Plane.{is_zero};
 ghost use Rattle.rules.specs.Areas.{stored_area};
 ghost use Rattle.rules.specs.Handed.{polygon_count, first_fault, corners_hold, links_hold, or_fault, soundness, GoodBuffers, Consistent};
 ghost use Rattle.rules.specs.Checker.{portals_hold, sound_verdict, verdict};
 ghost use Rattle.rules.specs.declared.Fault.TheVariants.{BadCorners, BadLinks};
-ghost use Rattle.rules.specs.declared.Soundness.TheVariants.{Sound};
 ghost use Rattle.rules.specs.declared.Verdict.TheVariants.{Accepted, BadArea};
 ghost use Rattle.stored.specs.Stored.{stored_in, MeshReady};
 ghost use Rattle.checker.specs.Asked.{handed_in, links_in, claim_in};
@@ -15,42 +14,42 @@ use crate::buffers::buffers_hold;
 use crate::corners::first_bad_corners;
 use crate::linked::first_bad_links;
 use crate::portals::first_bad_portals;
-use rules::{Fault, Found, Soundness, VERTEX_STRIDE, Verdict};
+use rules::{Fault, VERTEX_STRIDE, Verdict};
 use stored::area::mesh_area;
 
 // 42, of np polygons.
-fn links_sound(nvp: usize, np: usize, polygons: &[u16], links: &[u32]) -> Soundness
+fn links_sound(nvp: usize, np: usize, polygons: &[u16], links: &[u32]) -> Result<(), Fault>
     requires { RowsReady (links_in nvp polygons.now links.now) × (np ≡ polygon_count (links_in nvp polygons.now links.now)) }
-    ensures { result ≡ or_fault BadLinks (first_fault (links_hold (links_in nvp polygons.now links.now)) np) Sound }
+    ensures { result ≡ or_fault BadLinks (first_fault (links_hold (links_in nvp polygons.now links.now)) np) (Ok tt) }
 {
     match first_bad_links(nvp, np, polygons, links) {
-        Found::At(i) => Soundness::Broken(Fault::BadLinks(i as u64)),
-        Found::Nothing => Soundness::Sound,
+        Some(i) => Err(Fault::BadLinks(i as u64)),
+        None => Ok(()),
     }
 }
 
 // 41 and 42, of a mesh that has passed 40.
-fn rows_sound(nvp: usize, vertices: &[u16], polygons: &[u16], links: &[u32]) -> Soundness
+fn rows_sound(nvp: usize, vertices: &[u16], polygons: &[u16], links: &[u32]) -> Result<(), Fault>
     requires { GoodBuffers (handed_in nvp vertices.now polygons.now links.now) }
     ensures { result ≡ (let m = handed_in nvp vertices.now polygons.now links.now in
-        or_fault BadCorners (first_fault (corners_hold m) (polygon_count m)) (or_fault BadLinks (first_fault (links_hold m) (polygon_count m)) Sound)) }
+        or_fault BadCorners (first_fault (corners_hold m) (polygon_count m)) (or_fault BadLinks (first_fault (links_hold m) (polygon_count m)) (Ok tt))) }
 {
     let np = polygons.len() / nvp;
     match first_bad_corners(nvp, vertices.len() / VERTEX_STRIDE, np, polygons) {
-        Found::At(i) => Soundness::Broken(Fault::BadCorners(i as u64)),
-        Found::Nothing => links_sound(nvp, np, polygons, links),
+        Some(i) => Err(Fault::BadCorners(i as u64)),
+        None => links_sound(nvp, np, polygons, links),
     }
 }
 
 // 40 to 42, which come first in every request that takes a mesh.
-pub fn soundness_of(nvp: u32, vertices: &[u16], polygons: &[u16], links: &[u32]) -> Soundness
+pub fn soundness_of(nvp: u32, vertices: &[u16], polygons: &[u16], links: &[u32]) -> Result<(), Fault>
     ensures { result ≡ soundness (handed_in nvp vertices.now polygons.now links.now) }
 {
     let wide = nvp as usize;
     if buffers_hold(wide, vertices, polygons, links) {
         return rows_sound(wide, vertices, polygons, links);
     }
-    Soundness::Broken(Fault::BadBuffers)
+    Err(Fault::BadBuffers)
 }
 
 // 44, of np polygons over nv vertices.
@@ -88,8 +87,8 @@ fn sound_verdict(
 {
     let np = polygons.len() / nvp;
     match first_bad_portals(nvp, np, w, h, border, vertices, polygons, links) {
-        Found::At(i) => Verdict::BadPortals(i as u64),
-        Found::Nothing => {
+        Some(i) => Verdict::BadPortals(i as u64),
+        None => {
             area_verdict(
                 nvp,
                 np,
@@ -117,9 +116,9 @@ pub fn check_mesh(
 {
     let sound = soundness_of(nvp, vertices, polygons, links);
     match sound {
-        Soundness::Sound => {
+        Ok(()) => {
             sound_verdict(nvp as usize, w, h, border, claim, vertices, polygons, links)
         }
-        Soundness::Broken(fault) => Verdict::Unsound(fault),
+        Err(fault) => Verdict::Unsound(fault),
     }
 }

@@ -4,7 +4,6 @@ ghost use Rattle.rules.specs.Handed.{all_of, first_fault};
 ghost use Rattle.checker.specs.Steps.{row_holds, row_at};
 
 use crate::unused::are_unused;
-use rules::Found;
 use stored::corners::count_corners;
 
 // Whether the first n words of a row are vertices, of which there are nv.
@@ -12,12 +11,10 @@ fn are_vertices(row: &[u16], n: usize, nv: usize) -> bool
     requires { n ≤ length row.now }
     ensures { result ≡ all_of (λ k. ltb (get_or row.now k 0) nv) 0 n }
 {
-    let mut k = 0;
-    while k < n {
+    for k in 0..n {
         if nv <= row[k] as usize {
             return false;
         }
-        k += 1;
     }
     true
 }
@@ -37,7 +34,7 @@ fn row_holds(row: &[u16], nv: usize) -> bool
 }
 
 // The first of np polygons, of nvp words each, that doesn't.
-pub fn first_bad_corners(nvp: usize, nv: usize, np: usize, polygons: &[u16]) -> Found
+pub fn first_bad_corners(nvp: usize, nv: usize, np: usize, polygons: &[u16]) -> Option<usize>
     requires { np * nvp ≤ length polygons.now }
     ensures { result ≡ first_fault (λ i. row_holds nv (row_at nvp polygons.now i)) np }
 {
@@ -47,8 +44,8 @@ pub fn first_bad_corners(nvp: usize, nv: usize, np: usize, polygons: &[u16]) -> 
         if row_holds(&polygons[from..from + nvp], nv) {
             i += 1;
         } else {
-            return Found::At(i);
+            return Some(i);
         }
     }
-    Found::Nothing
+    None
 }

@@ -7,7 +7,6 @@ ghost use Rattle.checker.specs.Steps.{RowsReady, PolygonAt};
 use crate::ends::corners_end;
 use crate::sides::link_holds;
 use crate::unused::are_unlinked;
-use rules::Found;
 
 // Whether the link of each side of polygon i holds; `own` are its corners, and `mine` its links.
 fn sides_hold(
@@ -56,7 +55,7 @@ fn links_hold(nvp: usize, np: usize, polygons: &[u16], links: &[u32], i: usize) 
 }
 
 // The first of np polygons whose links don't.
-pub fn first_bad_links(nvp: usize, np: usize, polygons: &[u16], links: &[u32]) -> Found
+pub fn first_bad_links(nvp: usize, np: usize, polygons: &[u16], links: &[u32]) -> Option<usize>
     requires { RowsReady (links_in nvp polygons.now links.now) × (np ≡ polygon_count (links_in nvp polygons.now links.now)) }
     ensures { result ≡ first_fault (links_hold (links_in nvp polygons.now links.now)) np }
 {
@@ -65,8 +64,8 @@ pub fn first_bad_links(nvp: usize, np: usize, polygons: &[u16], links: &[u32]) -
         if links_hold(nvp, np, polygons, links, i) {
             i += 1;
         } else {
-            return Found::At(i);
+            return Some(i);
         }
     }
-    Found::Nothing
+    None
 }

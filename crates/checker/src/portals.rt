@@ -13,7 +13,7 @@ use crate::ends::corners_end;
 use links::portals::portal_of;
 use plane::ring::next;
 use records::polygon::NONE;
-use rules::{Found, Point, VERTEX_STRIDE};
+use rules::{Point, VERTEX_STRIDE};
 
 // The place of vertex c.
 fn place_at(vertices: &[u16], c: u16) -> Point
@@ -115,7 +115,7 @@ pub fn first_bad_portals(
     vertices: &[u16],
     polygons: &[u16],
     links: &[u32],
-) -> Found
+) -> Option<usize>
     requires { Consistent (handed_in nvp vertices.now polygons.now links.now)
         × (np ≡ polygon_count (handed_in nvp vertices.now polygons.now links.now)) }
     ensures { result ≡ first_fault (portals_hold (unclaimed_in nvp w h border vertices.now polygons.now links.now)) np }
@@ -125,8 +125,8 @@ pub fn first_bad_portals(
         if portals_hold(nvp, w, h, border, vertices, polygons, links, i) {
             i += 1;
         } else {
-            return Found::At(i);
+            return Some(i);
         }
     }
-    Found::Nothing
+    None
 }

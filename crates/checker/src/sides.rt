@@ -30,12 +30,10 @@ fn is_named_back(corners: &[u16], links: &[u32], a: u16, b: u16, i: u32) -> bool
     requires { length links.now ≡ length corners.now }
     ensures { result ≡ any_of (names_back corners.now links.now a b i) 0 (length corners.now) }
 {
-    let mut q = 0;
-    while q < corners.len() {
+    for q in 0..corners.len() {
         if names_back(corners, links, a, b, i, q) {
             return true;
         }
-        q += 1;
     }
     false
 }

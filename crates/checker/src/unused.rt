@@ -9,12 +9,10 @@ use stored::corners::UNUSED;
 pub fn are_unused(row: &[u16], from: usize) -> bool
     ensures { result ≡ unused_from row.now from }
 {
-    let mut k = from;
-    while k < row.len() {
+    for k in from..row.len() {
         if row[k] != UNUSED {
             return false;
         }
-        k += 1;
     }
     true
 }
@@ -23,12 +21,10 @@ pub fn are_unused(row: &[u16], from: usize) -> bool
 pub fn are_unlinked(row: &[u32], from: usize) -> bool
     ensures { result ≡ unused_from row.now from }
 {
-    let mut k = from;
-    while k < row.len() {
+    for k in from..row.len() {
         if row[k] != NONE {
             return false;
         }
-        k += 1;
     }
     true
 }

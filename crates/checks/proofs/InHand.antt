@@ -1,4 +1,5 @@
 -- What is computed of the numbers in hand is the rules' of the job: each sum, search and list of least lengths is the same one. Assumes nothing.
+use Rattle.std.specs.Prelude.{Option, Some, None}
 use mathlib.Core.Path.{◌≡◌, refl}
 use mathlib.Core.Bool.{Bool, false, ◌&&◌, ◌||◌, and-true, and-false}
 use mathlib.Core.List.{List}
@@ -9,8 +10,6 @@ use lib.ListN.{length}
 use borrow.Author.Tests.{le-leb, lt-leb}
 use Rattle.rules.specs.Job.{Job, job_stride}
 use Rattle.rules.specs.Checks.{refuse_if, refuse_at, check_nvp, counts_agree, check_v, first_short}
-use Rattle.rules.specs.declared.Found.{Found}
-use Rattle.rules.specs.declared.Found.TheVariants.{At, Nothing}
 use Rattle.rules.specs.declared.Refusal.{Refusal}
 use Rattle.rules.specs.declared.Refusal.TheVariants.{BadCornerLimit, HighCoordinate, BadFlag, TooManyVertices, ShortBuffer}
 use Rattle.laws.specs.Checks.{Agreed}
@@ -22,12 +21,12 @@ use Rattle.checks.specs.Answers.{verdict_of, first_of, first_of_lem, first_high_
 use Rattle.checks.proofs.Order.{vertex_checks, room_check}
 
 -- what a search found, as a verdict
-module _ (r : ℕ → Refusal) {f g : Found} (e : f ≡ g) where
-  pub found_at : {k : ℕ} → f ≡ At k → Refused (r k) ≡ verdict_of (refuse_at r g)
+module _ (r : ℕ → Refusal) {f g : Option ℕ} (e : f ≡ g) where
+  pub found_at : {k : ℕ} → f ≡ Some k → Refused (r k) ≡ verdict_of (refuse_at r g)
   unfolding verdict_of refuse_at
   found_at q = rw (← e, q) refl
 
-  pub found_none : f ≡ Nothing → Passed ≡ verdict_of (refuse_at r g)
+  pub found_none : f ≡ None → Passed ≡ verdict_of (refuse_at r g)
   unfolding verdict_of refuse_at
   found_none q = rw (← e, q) refl
 

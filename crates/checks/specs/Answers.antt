@@ -1,13 +1,11 @@
 -- A job of the numbers that are handed in, the verdict, and the searches and the least lengths over those numbers. Assumes nothing.
 -- Key: `is_passed`, `is_refusal`: what a verdict says of the rules' check; `high_is`, `flag_is`, `least_is`: searches and lengths are the rules'.
-use Rattle.std.specs.Prelude.{◌≡◌, refl, List, [], ◌∷◌, ℕ, ◌+◌, ◌*◌, ◌≤◌, ltb}
+use Rattle.std.specs.Prelude.{◌≡◌, refl, List, [], ◌∷◌, ℕ, ◌+◌, ◌*◌, ◌≤◌, ltb, Option, None}
 use Rattle.std.proofs.Common.{arith}
 use Rattle.mem.specs.Loops.{over}
 use Rattle.rules.specs.Lists.{when, or_else}
 use Rattle.rules.specs.Job.{Job, vertex_at, flag_at, count_all, count_v, count_t}
 use Rattle.rules.specs.Checks.{Checked, passed, refusal, or_next, vertex_stride, work_words, least_lengths, is_high, first_high, first_bad_flag}
-use Rattle.rules.specs.declared.Found.{Found}
-use Rattle.rules.specs.declared.Found.TheVariants.{Nothing}
 use Rattle.rules.specs.declared.Refusal.{Refusal}
 use Rattle.checks.specs.declared.check.Verdict.{Verdict}
 use Rattle.checks.specs.declared.check.Verdict.TheVariants.{Passed, Refused}
@@ -43,11 +41,11 @@ is_refusal passed r e = let z : ◌≡◌ {A = ℕ} 0 1 = cc in absurd (omega ar
 is_refusal (refusal q) r e = cc
 
 -- the rules' `first_high` and `first_bad_flag`, of n vertices of the numbers ns
-unfoldable pub first_high_in : List ℕ → ℕ → Found
-first_high_in ns n = over Nothing or_else (λ k. when (is_high (vertex_at ns k)) k) 0 n
+unfoldable pub first_high_in : List ℕ → ℕ → Option ℕ
+first_high_in ns n = over None or_else (λ k. when (is_high (vertex_at ns k)) k) 0 n
 
-unfoldable pub first_bad_flag_in : List ℕ → ℕ → Found
-first_bad_flag_in ns n = over Nothing or_else (λ k. when (ltb 1 (flag_at ns k)) k) 0 n
+unfoldable pub first_bad_flag_in : List ℕ → ℕ → Option ℕ
+first_bad_flag_in ns n = over None or_else (λ k. when (ltb 1 (flag_at ns k)) k) 0 n
 
 pub high_is : (j : Job) → first_high j ≡ first_high_in j.numbers (count_all j)
 unfolding first_high first_high_in

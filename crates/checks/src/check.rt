@@ -8,7 +8,7 @@ ghost use Rattle.checks.specs.Answers.{job_of, verdict_of, first_of, first_high_
 use crate::counts::{count_all, count_t, count_v, counts_agree};
 use crate::room::{BUFFERS, first_short, least_lengths};
 use crate::vertices::{first_bad_flag, first_high};
-use rules::{Found, Refusal};
+use rules::Refusal;
 
 // What the checks say of a job: it may be built, or one of replies 1 to 6.
 #[derive(Clone, Copy)]
@@ -53,8 +53,8 @@ fn check_high(numbers: &[u16], n: usize) -> Verdict
     ensures { result ≡ verdict_of (refuse_at HighCoordinate (first_high_in numbers.now n)) }
 {
     match first_high(numbers, n) {
-        Found::At(k) => Verdict::Refused(Refusal::HighCoordinate(k as u64)),
-        Found::Nothing => Verdict::Passed,
+        Some(k) => Verdict::Refused(Refusal::HighCoordinate(k as u64)),
+        None => Verdict::Passed,
     }
 }
 
@@ -64,8 +64,8 @@ fn check_flags(numbers: &[u16], n: usize) -> Verdict
     ensures { result ≡ verdict_of (refuse_at BadFlag (first_bad_flag_in numbers.now n)) }
 {
     match first_bad_flag(numbers, n) {
-        Found::At(k) => Verdict::Refused(Refusal::BadFlag(k as u64)),
-        Found::Nothing => Verdict::Passed,
+        Some(k) => Verdict::Refused(Refusal::BadFlag(k as u64)),
+        None => Verdict::Passed,
     }
 }
 
@@ -85,8 +85,8 @@ fn check_room(nvp: u32, v: usize, t: usize, have: [usize; BUFFERS]) -> Verdict
     ensures { result ≡ verdict_of (refuse_at ShortBuffer (first_short have (least_of nvp v t))) }
 {
     match first_short(have, least_lengths(nvp, v, t)) {
-        Found::At(k) => Verdict::Refused(Refusal::ShortBuffer(k as u64)),
-        Found::Nothing => Verdict::Passed,
+        Some(k) => Verdict::Refused(Refusal::ShortBuffer(k as u64)),
+        None => Verdict::Passed,
     }
 }
 

@@ -51,10 +51,8 @@ fn sum_of(part: Part, lengths: &[u32]) -> usize
     ensures { Total (sum_over (part_of part) lengths.now) result }
 {
     let mut sum = 0;
-    let mut i = 0;
-    while i < lengths.len() {
+    for i in 0..lengths.len() {
         sum += part_in(part, lengths[i]);
-        i += 1;
     }
     sum
 }

@@ -3,7 +3,7 @@ ghost use Rattle.std.specs.Prelude.{◌≡◌, ◌+◌, ◌*◌, ◌≤◌};
 ghost use Rattle.rules.specs.Checks.{first_short};
 ghost use Rattle.checks.specs.Answers.{Sized, least_of};
 
-use rules::{Found, VERTEX_STRIDE};
+use rules::VERTEX_STRIDE;
 
 // How many buffers are lent.
 pub const BUFFERS: usize = 7;
@@ -26,17 +26,15 @@ pub fn least_lengths(nvp: u32, v: usize, t: usize) -> [usize; BUFFERS]
 }
 
 // The first buffer whose length is below its least one.
-pub fn first_short(have: [usize; BUFFERS], least: [usize; BUFFERS]) -> Found
+pub fn first_short(have: [usize; BUFFERS], least: [usize; BUFFERS]) -> Option<usize>
     ensures { result ≡ first_short have least }
 {
-    let mut found = Found::Nothing;
-    let mut k = 0;
-    while k < BUFFERS {
+    let mut found = None;
+    for k in 0..BUFFERS {
         if have[k] < least[k] {
-            found = Found::At(k);
+            found = Some(k);
             break;
         }
-        k += 1;
     }
     found
 }

@@ -5,7 +5,6 @@ ghost use Rattle.rules.specs.Checks.{is_high};
 ghost use Rattle.checks.specs.Answers.{first_high_in, first_bad_flag_in};
 
 use crate::counts::JOB_STRIDE;
-use rules::Found;
 
 // Whether x or z of vertex k is above 32,767.
 fn is_high(numbers: &[u16], k: usize) -> bool
@@ -25,35 +24,31 @@ fn is_bad_flag(numbers: &[u16], k: usize) -> bool
 }
 
 // The first of the n vertices with x or z above 32,767.
-pub fn first_high(numbers: &[u16], n: usize) -> Found
+pub fn first_high(numbers: &[u16], n: usize) -> Option<usize>
     requires { n * job_stride ≤ length numbers.now }
     ensures { result ≡ first_high_in numbers.now n }
 {
-    let mut found = Found::Nothing;
-    let mut k = 0;
-    while k < n {
+    let mut found = None;
+    for k in 0..n {
         if is_high(numbers, k) {
-            found = Found::At(k);
+            found = Some(k);
             break;
         }
-        k += 1;
     }
     found
 }
 
 // The first of the n vertices whose flag is neither 0 nor 1.
-pub fn first_bad_flag(numbers: &[u16], n: usize) -> Found
+pub fn first_bad_flag(numbers: &[u16], n: usize) -> Option<usize>
     requires { n * job_stride ≤ length numbers.now }
     ensures { result ≡ first_bad_flag_in numbers.now n }
 {
-    let mut found = Found::Nothing;
-    let mut k = 0;
-    while k < n {
+    let mut found = None;
+    for k in 0..n {
         if is_bad_flag(numbers, k) {
-            found = Found::At(k);
+            found = Some(k);
             break;
         }
-        k += 1;
     }
     found
 }

@@ -1,4 +1,5 @@
 -- The mesh line: four cells, of which the last one is read as a whole number and the three before it as a line of two numbers. Assumes nothing.
+use Rattle.std.specs.Prelude.{Option, Some, None}
 use mathlib.Core.Path.{◌≡◌, refl, sym, ap, ◌∙◌}
 use mathlib.Core.Bool.{true, false, true≢false}
 use mathlib.Core.List.{List, [], ◌∷◌, ◌++◌}
@@ -15,8 +16,6 @@ use Rattle.rules.specs.Lines.{tab_byte, parts, Line, Numbers, numbers, malformed
 use Rattle.rules.specs.Sheet.{mesh_name, Read, need}
 use Rattle.rules.specs.CheckSheet.{count_most, total_most, need_whole, need_mesh}
 use Rattle.rules.specs.Checker.{Claim}
-use Rattle.rules.specs.declared.Signed.{Signed}
-use Rattle.rules.specs.declared.Signed.TheVariants.{Whole, NotWhole}
 use Rattle.lines.specs.declared.numbers.Four.{Four}
 use Rattle.lines.specs.Read.{four_of, LastCell}
 use Rattle.lines.specs.Taken.{Limited, limited}
@@ -108,13 +107,13 @@ module _ {line : List ℕ} {p : ℕ} (l : LastCell line p) (h : length (parts ta
     unfolding MeshIs need
     counts_bad g k f = whole k f ∙ rw (four_bad front e g) refl
 
-    module _ (g : r.good ≡ true) {s : Signed} (q : s ≡ signed_in total_most (view line p (length line - p))) where
-      pub total_bad : s ≡ NotWhole → MeshIs (parts tab_byte line) Missing
+    module _ (g : r.good ≡ true) {s : Option ℤ} (q : s ≡ signed_in total_most (view line p (length line - p))) where
+      pub total_bad : s ≡ None → MeshIs (parts tab_byte line) Missing
       unfolding MeshIs need need_whole
       total_bad x k f = whole k f ∙ rw ((four_good front e g).says, sym q ∙ x) refl
 
       -- t is the total z as the bits say it
-      pub mesh_counted : {z t : ℤ} → s ≡ Whole z → t ≡ z → MeshIs (parts tab_byte line) (Counted r.a r.b t)
+      pub mesh_counted : {z t : ℤ} → s ≡ Some z → t ≡ z → MeshIs (parts tab_byte line) (Counted r.a r.b t)
       unfolding MeshIs need need_whole
       mesh_counted x u =
           let y = four_good front e g in

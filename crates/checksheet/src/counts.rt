@@ -5,7 +5,6 @@ ghost use Rattle.checksheet.specs.Reading.{MeshIs};
 use lines::numbers::read_numbers;
 use lines::tabs::{count_cells, last_cell};
 use lines::whole::read_signed;
-use rules::Signed;
 
 // The most vertices, and the most polygons.
 const COUNT_MOST: u64 = 8192;
@@ -29,8 +28,8 @@ pub fn mesh_cells(line: &[u8]) -> MeshLine
         let counts = read_numbers(&line[..last - 1], b"mesh", 0, &[COUNT_MOST, COUNT_MOST]);
         if counts.good {
             return match read_signed(&line[last..], TOTAL_MOST) {
-                Signed::Whole(z) => MeshLine::Counted(counts.a as usize, counts.b as usize, z),
-                Signed::NotWhole => MeshLine::Missing,
+                Some(z) => MeshLine::Counted(counts.a as usize, counts.b as usize, z),
+                None => MeshLine::Missing,
             };
         }
     }

@@ -30,12 +30,10 @@ pub fn lay_contour(work: &mut [u32], numbers: &[u16], first: usize, n: usize, po
     requires { LayReady work.old numbers.now first n po }
     ensures { work.new ≡ splice work.old po (packed place_words (places_in numbers.now first n)) }
 {
-    let mut k = 0;
-    while k < n {
+    for k in 0..n {
         let p = place_in(numbers, first + k);
         work[po + k * 2] = p.x as u32;
         work[po + k * 2 + 1] = p.z as u32;
-        k += 1;
     }
 }
 

@@ -70,8 +70,7 @@ pub fn add_contours(
     let mut nv = 0;
     let mut np = 0;
     let mut first = 0;
-    let mut c = 0;
-    while c < lengths.len() {
+    for c in 0..lengths.len() {
         let k = contour_at(lengths, regions, codes, c, first);
         match add_next(work, g, nv, np, nvp, numbers, k) {
             Added::To(v, p) => {
@@ -85,7 +84,6 @@ pub fn add_contours(
             }
         }
         first += k.n;
-        c += 1;
     }
     Gathered::Mesh(nv, np)
 }

@@ -61,8 +61,7 @@ pub fn shape_contour(
     requires { ShapeReady work.old at ko n to k }
     ensures { work.new ≡ splice work.old at (polygon_records (map (contour_triangle (view work.old ko n) region code) (triangles_at work.old to k))) }
 {
-    let mut i = 0;
-    while i < k {
+    for i in 0..k {
         let t = to + i * 3;
         let p = contour_triangle(
             work,
@@ -75,7 +74,6 @@ pub fn shape_contour(
             code,
         );
         store_poly(work, at + i * POLYGON_SIZE, p);
-        i += 1;
     }
 }
 

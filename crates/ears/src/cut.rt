@@ -30,10 +30,8 @@ fn count_up(ix: &mut [u32])
     ensures { ix.new ≡ indices (length ix.old) }
 {
     let n = ix.len();
-    let mut k = 0;
-    while k < n {
+    for k in 0..n {
         ix[k] = k as u32;
-        k += 1;
     }
 }
 
@@ -43,10 +41,8 @@ fn close_gap(ix: &mut [u32], k: usize)
     ensures { ix.new ≡ without ix.old k ++ (0 ∷ []) }
 {
     let last = ix.len() - 1;
-    let mut i = k;
-    while i < last {
+    for i in k..last {
         ix[i] = ix[i + 1];
-        i += 1;
     }
     ix[last] = 0;
 }
@@ -75,11 +71,9 @@ fn mark_all(w: &mut [u32], a: usize, m: usize)
     requires { Ready a m w.old }
     ensures { w.new ≡ splice w.old a (mark_all (points_in (take a w.old)) (view w.old a m)) }
 {
-    let mut i = 0;
-    while i < m {
+    for i in 0..m {
         let i1 = next(i, m);
         remark_in(&mut *w, a, m, i, next(i1, m), i1);
-        i += 1;
     }
 }
 

@@ -72,12 +72,10 @@ fn least_ear(kind: Kind, pts: &[u32], ix: &[u32]) -> Ear
         key: 0,
         at: 0,
     };
-    let mut i = 0;
-    while i < n {
+    for i in 0..n {
         if is_cuttable(kind, pts, ix, i) {
             best = better_of(true, key_from(kind, pts, ix, i), i, best);
         }
-        i += 1;
     }
     best
 }

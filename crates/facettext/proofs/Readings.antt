@@ -1,5 +1,6 @@
 -- What is printed for a file, by what reading it comes to; how long that is, and that it is counted. Assumes nothing.
 -- Key: `too_long`, `bad_length`, `not_zero_lem`, `all_good`: the four cases; `right_is`; `good_fits`; `whole_answer`.
+use Rattle.std.specs.Prelude.{Some, None}
 use mathlib.Core.Path.{◌≡◌, refl, sym, ◌∙◌}
 use mathlib.Core.Bool.{true, false}
 use mathlib.Core.List.{List}
@@ -13,7 +14,6 @@ use Rattle.ints.specs.Bools.{and_left, and_right}
 use Rattle.rules.specs.Sheet.{bytes_most, refused_text}
 use Rattle.rules.specs.Stl.{facets_read, count_in, file_length, right_length, first_wrong, facets_in, after_zeros, reading}
 use Rattle.rules.specs.StlText.{reading_text, facets_text}
-use Rattle.rules.specs.declared.Found.TheVariants.{At, Nothing}
 use Rattle.lines.specs.Print.{Printed}
 use Rattle.lines.specs.Printing.{printed_as, printed_same_length}
 use Rattle.facettext.proofs.Facets.{good_room}
@@ -55,11 +55,11 @@ module _ (bs : List ℕ) where
     unfolding reading
     right e = short ∙ rw (e, reading) refl
 
-    pub not_zero_lem : right_length bs ≡ true → (i : ℕ) → first_wrong bs ≡ At i → facets_text bs ≡ refused_text 73 i
+    pub not_zero_lem : right_length bs ≡ true → (i : ℕ) → first_wrong bs ≡ Some i → facets_text bs ≡ refused_text 73 i
     unfolding after_zeros reading_text
     not_zero_lem e i q = right e ∙ rw q refl
 
-    pub all_good : right_length bs ≡ true → first_wrong bs ≡ Nothing → facets_text bs ≡ reading_text (facets_read (facets_in bs))
+    pub all_good : right_length bs ≡ true → first_wrong bs ≡ None → facets_text bs ≡ reading_text (facets_read (facets_in bs))
     unfolding after_zeros
     all_good e q = right e ∙ rw q refl
 

@@ -51,10 +51,8 @@ fn two_to(n: usize) -> u64
     ensures { result ≡ 2 ^ n }
 {
     let mut r = 1u64;
-    let mut i = 0;
-    while i < n {
+    for i in 0..n {
         r *= 2;
-        i += 1;
     }
     r
 }

@@ -47,11 +47,9 @@ fn put_bits(out: &mut [u8], at: usize, p: u32) -> usize
 {
     out[at] = b'#';
     let mut shift = 268435456u32;
-    let mut i = 0;
-    while i < 8 {
+    for i in 0..8 {
         out[at + 1 + i] = hex_digit(p / shift % 16);
         shift /= 16;
-        i += 1;
     }
     at + 9
 }

@@ -26,10 +26,8 @@ fn put_others(out: &mut [u8], at: usize, ps: &[u32]) -> usize
     ensures { Printed (packed (λ p. tab_byte ∷ coordinate_text p) ps.now) out.old out.new at result }
 {
     let mut to = at;
-    let mut i = 0;
-    while i < ps.len() {
+    for i in 0..ps.len() {
         to = put_next(out, to, ps[i]);
-        i += 1;
     }
     to
 }
@@ -65,10 +63,8 @@ pub fn put_facet_lines(out: &mut [u8], at: usize, file: &[u8], n: usize) -> usiz
     ensures { Printed (facet_lines (facets_in file.now)) out.old out.new at result }
 {
     let mut to = at;
-    let mut k = 0;
-    while k < n {
+    for k in 0..n {
         to = put_facet(out, to, file, FRONT_BYTES + k * FACET_BYTES);
-        k += 1;
     }
     to
 }

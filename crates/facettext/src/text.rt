@@ -7,7 +7,6 @@ ghost use Rattle.lines.specs.Print.{Room, Printed};
 use crate::rows::put_facet_lines;
 use lines::cells::put_cell;
 use lines::print::put_text;
-use rules::Found;
 use sheet::rows::put_refused;
 use stl::bytes::get_u32;
 use stl::facets::right_length;
@@ -39,8 +38,8 @@ pub fn facets_text(file: &[u8], out: &mut [u8; 272000]) -> usize
     }
     if right_length(file) {
         return match first_wrong(file) {
-            Found::At(i) => put_refused(out, 73, i as u64),
-            Found::Nothing => put_good(file, out),
+            Some(i) => put_refused(out, 73, i as u64),
+            None => put_good(file, out),
         };
     }
     put_refused(out, 72, 0)

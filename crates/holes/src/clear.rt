@@ -36,10 +36,8 @@ fn drop_corners(work: &mut [u32], at: usize, rem: u32)
     ensures { work.new ≡ splice work.old (at + 3) (map (Rules.dropped rem) (corners_from work.old at)) }
 {
     let n = count_from(work, at);
-    let mut j = 0;
-    while j < n {
+    for j in 0..n {
         work[at + CORNERS_AT + j] = dropped(work[at + CORNERS_AT + j], rem);
-        j += 1;
     }
 }
 
@@ -48,10 +46,8 @@ fn drop_numbers(work: &mut [u32], o: usize, n: usize, rem: u32)
     requires { ClearReady work.old o n }
     ensures { work.new ≡ splice work.old o (polygon_records (map (dropped_in rem) (polygons_at work.old o n))) }
 {
-    let mut i = 0;
-    while i < n {
+    for i in 0..n {
         drop_corners(work, o + i * POLYGON_SIZE, rem);
-        i += 1;
     }
 }
 

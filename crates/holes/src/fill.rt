@@ -22,13 +22,11 @@ pub fn lay_points(work: &mut [u32], vo: usize, nv: usize, q: usize, m: usize, po
     requires { LayReady work.old vo nv q m po }
     ensures { work.new ≡ splice work.old po (packed place_words (places_of (vertices_at work.old vo nv) (points_at work.old q m))) }
 {
-    let mut k = 0;
-    while k < m {
+    for k in 0..m {
         let c = load_point(work, q, m, k);
         let p = place_at(work, vo, nv, c.vertex as usize);
         work[po + k * 2] = p.x as u32;
         work[po + k * 2 + 1] = p.z as u32;
-        k += 1;
     }
 }
 
@@ -80,8 +78,7 @@ pub fn shape_triangles(work: &mut [u32], at: usize, q: usize, m: usize, to: usiz
     requires { ShapeReady work.old at q m to k }
     ensures { work.new ≡ splice work.old at (polygon_records (map (hole_triangle (points_at work.old q m)) (triangles_at work.old to k))) }
 {
-    let mut i = 0;
-    while i < k {
+    for i in 0..k {
         let t = to + i * 3;
         let p = hole_triangle(
             work,
@@ -92,7 +89,6 @@ pub fn shape_triangles(work: &mut [u32], at: usize, q: usize, m: usize, to: usiz
             work[t + 2] as usize,
         );
         store_poly(work, at + i * POLYGON_SIZE, p);
-        i += 1;
     }
 }
 

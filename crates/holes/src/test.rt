@@ -18,12 +18,10 @@ fn count_in(s: &[u32], v: u32) -> usize
     ensures { result ≡ count v s.now }
 {
     let mut c: usize = 0;
-    let mut i = 0;
-    while i < s.len() {
+    for i in 0..s.len() {
         if s[i] == v {
             c += 1;
         }
-        i += 1;
     }
     c
 }
@@ -60,10 +58,8 @@ fn push_neighbours(work: &mut [u32], at: usize, p: Poly, rem: u32) -> usize
     ensures { Wrote work.old at (neighbours_in rem (corners_of p)) result work.new }
 {
     let mut k: usize = 0;
-    let mut j = 0;
-    while j < p.n {
+    for j in 0..p.n {
         k += push_end(work, at + k, corner(p, j), side_end(p, j), rem);
-        j += 1;
     }
     k
 }
@@ -81,8 +77,7 @@ fn push_all(work: &mut [u32], o: usize, np: usize, q: usize, rem: u32) -> Met
     ensures { Pushed work.old o np q rem result work.new }
 {
     let mut k: usize = 0;
-    let mut i = 0;
-    while i < np {
+    for i in 0..np {
         if is_held(work, o, np, i, rem) {
             let p = load_at(work, o, np, i);
             if 1 < holds_in(p, rem) {
@@ -90,7 +85,6 @@ fn push_all(work: &mut [u32], o: usize, np: usize, q: usize, rem: u32) -> Met
             }
             k += push_neighbours(work, q + k, p, rem);
         }
-        i += 1;
     }
     Met { once: true, n: k }
 }
@@ -100,12 +94,10 @@ fn met_once(s: &[u32]) -> usize
     ensures { result ≡ met_once s.now }
 {
     let mut c: usize = 0;
-    let mut i = 0;
-    while i < s.len() {
+    for i in 0..s.len() {
         if count_in(s, s[i]) == 1 {
             c += 1;
         }
-        i += 1;
     }
     c
 }

@@ -1,6 +1,6 @@
 -- Buffers that are long enough make no difference: a job comes to what the rules say of it without any. Assumes nothing.
 -- Key: `enough`.
-use Rattle.std.specs.Prelude.{◌≡◌, refl, Bool, ◌||◌, List, ℕ, ◌≤◌, ◌<◌, ltb, length, get_or}
+use Rattle.std.specs.Prelude.{◌≡◌, refl, Bool, ◌||◌, List, ℕ, ◌≤◌, ◌<◌, ltb, length, get_or, Option, None}
 use Rattle.std.proofs.Common.{sym, ap, ◌∙◌, le_refl, ltb-false, le-ltb}
 use Rattle.mem.specs.Loops.{over_cong}
 use Rattle.ints.specs.Bools.{or_right}
@@ -9,8 +9,6 @@ use Rattle.rules.specs.Job.{Job}
 use Rattle.rules.specs.Checks.{Lent, least_lengths, lengths_of, Checked, passed, refusal, or_next, refuse_at, check_nvp, check_counts, first_high, first_bad_flag, check_v, first_short, check}
 use Rattle.rules.specs.Build.{after_check, outcome}
 use Rattle.rules.specs.Sheet.{outcome_of}
-use Rattle.rules.specs.declared.Found.{Found}
-use Rattle.rules.specs.declared.Found.TheVariants.{Nothing}
 use Rattle.rules.specs.declared.Refusal.TheVariants.{BadCornerLimit, HighCoordinate, BadFlag, ShortBuffer}
 use Rattle.laws.proofs.Checks.{not_refused}
 
@@ -18,7 +16,7 @@ use Rattle.laws.proofs.Checks.{not_refused}
 none_short : (ls least : List ℕ) → ((k : ℕ) → k < length least → get_or least k 0 ≤ get_or ls k 0) → first_short ls least ≡ first_short least least
 unfolding first_short
 none_short ls least h =
-    over_cong Nothing or_else (λ k. when (ltb (get_or ls k 0) (get_or least k 0)) k) (λ k. when (ltb (get_or least k 0) (get_or least k 0)) k) 0 (length least)
+    over_cong None or_else (λ k. when (ltb (get_or ls k 0) (get_or least k 0)) k) (λ k. when (ltb (get_or least k 0) (get_or least k 0)) k) 0 (length least)
     (λ k a b. ap (λ (t : Bool). when t k) (le-ltb (get_or ls k 0) (get_or least k 0) (h k b) ∙ sym (le-ltb (get_or least k 0) (get_or least k 0) (le_refl (get_or least k 0)))))
 
 -- what comes behind the first check counts only if that one passes
@@ -37,6 +35,6 @@ pub enough : (j : Job) (b : Lent) → (j.nvp ≤ 12 → (k : ℕ) → k < length
     → outcome j b ≡ outcome_of j
 unfolding outcome outcome_of check
 enough j b h =
-    ap (after_check j) (behind (check_nvp j) _ _ (λ e. ap (λ (f : Found). or_next (check_counts j) (or_next (refuse_at HighCoordinate (first_high j))
+    ap (after_check j) (behind (check_nvp j) _ _ (λ e. ap (λ (f : Option ℕ). or_next (check_counts j) (or_next (refuse_at HighCoordinate (first_high j))
     (or_next (refuse_at BadFlag (first_bad_flag j)) (or_next (check_v j) (refuse_at ShortBuffer f)))))
     (none_short (lengths_of b) (least_lengths j) (h (within_twelve j e)))))

@@ -1,12 +1,11 @@
 -- A mesh that is built, handed on as it lies in the lent buffers, becomes the mesh's own file: what `rules` states in its file `StlText`. Assumes nothing.
 -- Key: `built_is_carved`.
-use Rattle.std.specs.Prelude.{ℕ, ◌+◌, ◌-◌, ◌≡◌, List, [], ◌++◌, map, Float, length}
+use Rattle.std.specs.Prelude.{ℕ, ◌+◌, ◌-◌, ◌≡◌, List, [], ◌++◌, map, Float, length, Ok}
 use Rattle.std.proofs.Math.Path.{ap}
 use Rattle.std.proofs.Common.{◌∙◌}
 use Rattle.std.proofs.lemmas.List.{length-map}
 use Rattle.mem.specs.Loops.{over_cong}
 use Rattle.rules.specs.declared.Vertex.{Vertex}
-use Rattle.rules.specs.declared.Soundness.TheVariants.{Sound}
 use Rattle.rules.specs.Mesh.{Mesh, Polygon, polygon_at}
 use Rattle.rules.specs.Removal.{Removal}
 use Rattle.rules.specs.Job.{Job}
@@ -43,7 +42,7 @@ count_bare ps =
 -- ---- a mesh that is written one thing after the other
 
 module _ (nvp w h border : ℕ) (vs : List Vertex) (ps : List Polygon) (ls : List (List ℕ)) (x : Meets nvp w h border vs ps ls) where
-  written_sound : soundness (written nvp w h border vs ps ls x) ≡ Sound
+  written_sound : soundness (written nvp w h border vs ps ls x) ≡ (Ok tt)
   unfolding claimed
   written_sound = (sound_exactly (written nvp w h border vs ps ls x)).1 (meets_acceptable nvp w h border vs ps ls x).consistent
 

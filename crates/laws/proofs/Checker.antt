@@ -3,16 +3,13 @@
 use Prim.Native.Nat.{ℕ, ◌≤◌, ◌<◌}
 use Rattle.std.proofs.Common.{arith, ◌∙◌, ap, ⊎_elim}
 use Rattle.std.proofs.Math.Path.{◌≡◌, refl, sym}
-use Rattle.std.specs.Prelude.{Bool, true, false, eqb, ltb, length, ℤ, pos, negsuc, ◌-ℤ◌}
+use Rattle.std.specs.Prelude.{Bool, true, false, eqb, ltb, length, ℤ, pos, negsuc, ◌-ℤ◌, Option, Some, None, Result, Ok, Err, ⊤}
 use Rattle.std.proofs.Math.Bool.{cond}
 use borrow.Author.Tests.{eqb-true, lt-ltb, le-ltb, eq-eqb}
 use Rattle.ints.specs.Ring.{at, nat, ◌⊖◌, is_eq}
 use Rattle.ints.specs.Order.{eq_is}
 use Rattle.mem.specs.Cases.{lt_or_le}
-use Rattle.rules.specs.declared.Found.{Found}
-use Rattle.rules.specs.declared.Found.TheVariants.{At, Nothing}
-use Rattle.rules.specs.declared.Soundness.{Soundness}
-use Rattle.rules.specs.declared.Soundness.TheVariants.{Sound, Broken}
+use Rattle.rules.specs.declared.Fault.{Fault}
 use Rattle.rules.specs.declared.Verdict.TheVariants.{Accepted, Unsound, BadArea}
 use Rattle.rules.specs.Plane.{is_zero}
 use Rattle.rules.specs.Links.{none}
@@ -63,26 +60,26 @@ module _ (c : Claim) where
 -- ---- the verdict
 
 module _ (c : Claim) where
-  abbrev portal_fault : Found
+  abbrev portal_fault : Option ℕ
   portal_fault = first_fault (portals_hold c) (polygon_count c.mesh)
 
-  pub sound_passes : soundness c.mesh ≡ Sound → verdict c ≡ sound_verdict c portal_fault
+  pub sound_passes : soundness c.mesh ≡ (Ok tt) → verdict c ≡ sound_verdict c portal_fault
   unfolding verdict
   sound_passes e = rw (e, verdict) refl
 
-  is_sound : verdict c ≡ Accepted → soundness c.mesh ≡ Sound
+  is_sound : verdict c ≡ Accepted → soundness c.mesh ≡ (Ok tt)
   unfolding verdict
   is_sound e = go (soundness c.mesh) refl
     where
-      go : (s : Soundness) → soundness c.mesh ≡ s → soundness c.mesh ≡ Sound
-      go Sound q = q
-      go (Broken f) q =
+      go : (s : Result ⊤ Fault) → soundness c.mesh ≡ s → soundness c.mesh ≡ (Ok tt)
+      go (Ok _) q = q
+      go (Err f) q =
           let x : Unsound f ≡ Accepted = rw (q, verdict) at e in let z : ◌≡◌ {A = ℕ} 0 1 = cc in absurd (omega arith)
 
-  no_portal_fault : (f : Found) → sound_verdict c f ≡ Accepted → f ≡ Nothing
+  no_portal_fault : (f : Option ℕ) → sound_verdict c f ≡ Accepted → f ≡ None
   unfolding sound_verdict
-  no_portal_fault (At i) e = let z : ◌≡◌ {A = ℕ} 0 1 = cc in absurd (omega arith)
-  no_portal_fault Nothing e = refl
+  no_portal_fault (Some i) e = let z : ◌≡◌ {A = ℕ} 0 1 = cc in absurd (omega arith)
+  no_portal_fault None e = refl
 
   area_holds_lem : (t : Bool) → cond t Accepted BadArea ≡ Accepted → t ≡ true
   area_holds_lem true e = refl

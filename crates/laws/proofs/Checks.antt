@@ -1,14 +1,12 @@
 -- Replies 1 to 6: what is known of a job that passes the checks, and its counts. Assumes nothing.
 -- Key: `checked`: what is known of a job that passes; `agreed`: what of one whose counts agree; `T-far-below-V`: T is 0, or smaller than V by two.
-use Rattle.std.specs.Prelude.{ℕ, zero, suc, ◌+◌, ◌-◌, ◌*◌, ◌≤◌, ◌<◌, ◌≡◌, refl, Bool, true, false, not, cond, ◌||◌, ◌⊎◌, List, leb, ltb, eqb, length, get_or}
+use Rattle.std.specs.Prelude.{ℕ, zero, suc, ◌+◌, ◌-◌, ◌*◌, ◌≤◌, ◌<◌, ◌≡◌, refl, Bool, true, false, not, cond, ◌||◌, ◌⊎◌, List, leb, ltb, eqb, length, get_or, Option, Some, None}
 use Rattle.std.proofs.Common.{arith, inl, inr, ⊎_elim, ltb-false, leb-true, eqb-true, le-leb}
 use Rattle.std.proofs.lemmas.Bool.{not-false, lt-leb}
 use Rattle.ints.specs.Bools.{and_left, and_right, or_left, or_right}
 use Rattle.mem.specs.Loops.{over, run}
 use Rattle.mem.specs.Cases.{lt_or_le}
 use Rattle.rules.specs.declared.Vertex.{Vertex}
-use Rattle.rules.specs.declared.Found.{Found}
-use Rattle.rules.specs.declared.Found.TheVariants.{At, Nothing}
 use Rattle.rules.specs.declared.Refusal.{Refusal}
 use Rattle.rules.specs.declared.Refusal.TheVariants.{BadCornerLimit, CountsDisagree, HighCoordinate, BadFlag, TooManyVertices, ShortBuffer}
 use Rattle.rules.specs.Plane.{on_plane, InGrid}
@@ -33,10 +31,10 @@ unfolding refuse_if
 not_refused true r e = let z : ◌≡◌ {A = ℕ} 0 1 = cc in absurd (omega arith)
 not_refused false r e = refl
 
-not_found : (r : ℕ → Refusal) (f : Found) → refuse_at r f ≡ passed → f ≡ Nothing
+not_found : (r : ℕ → Refusal) (f : Option ℕ) → refuse_at r f ≡ passed → f ≡ None
 unfolding refuse_at
-not_found r (At k) e = let z : ◌≡◌ {A = ℕ} 0 1 = cc in absurd (omega arith)
-not_found r Nothing e = refl
+not_found r (Some k) e = let z : ◌≡◌ {A = ℕ} 0 1 = cc in absurd (omega arith)
+not_found r None e = refl
 
 not_high : (v : Vertex) → is_high v ≡ false → InGrid (on_plane v)
 unfolding is_high

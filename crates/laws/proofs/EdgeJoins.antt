@@ -1,7 +1,7 @@
 -- The records of sides that are taken by sides that run against them: no side takes two. Assumes nothing.
 -- Key: `all_joined`.
 use Prim.Native.Nat.{ℕ, zero, suc, ◌<◌}
-use Rattle.std.specs.Prelude.{◌≡◌, Bool, ◌&&◌, cond, ◌≢◌, List, [], eqb, ltb, set}
+use Rattle.std.specs.Prelude.{◌≡◌, Bool, ◌&&◌, cond, ◌≢◌, List, [], eqb, ltb, set, Option, Some, None}
 use Rattle.std.proofs.Math.Path.{refl}
 use Rattle.std.proofs.Common.{sym, ◌∙◌, ⊎_elim, eqb-true, get_or-set_same, get_or-set_other}
 use Rattle.std.proofs.Math.Bool.{true, false}
@@ -9,8 +9,6 @@ use Rattle.std.proofs.Math.ListN.{length, length-set}
 use Rattle.ints.specs.Bools.{and_left, and_right}
 use Rattle.mem.specs.Cases.{eq_or_ne}
 use Rattle.rules.specs.declared.Edge.{Edge}
-use Rattle.rules.specs.declared.Found.{Found}
-use Rattle.rules.specs.declared.Found.TheVariants.{At, Nothing}
 use Rattle.rules.specs.Lists.{when, or_else, down}
 use Rattle.rules.specs.Mesh.{Polygon, polygon_at, side_start, side_end}
 use Rattle.rules.specs.Links.{no_edge, each_side, record_side, is_free, newest, joined_to, join_at, join_side, edges_of}
@@ -45,11 +43,11 @@ is_free_lem low high e t =
 
 -- what is found fits
 module _ (test : ℕ → Bool) where
-  Fits : Found → Type 0
-  Fits (At k) = test k ≡ true
-  Fits Nothing = Unit
+  Fits : Option ℕ → Type 0
+  Fits (Some k) = test k ≡ true
+  Fits None = Unit
 
-  fits_more : (t : Bool) (n : ℕ) (f : Found) → test n ≡ t → Fits f → Fits (or_else (when t n) f)
+  fits_more : (t : Bool) (n : ℕ) (f : Option ℕ) → test n ≡ t → Fits f → Fits (or_else (when t n) f)
   unfolding Fits or_else when
   fits_more true n f e h = e
   fits_more false n f e h = h
@@ -59,7 +57,7 @@ module _ (test : ℕ → Bool) where
   fits zero = tt
   fits (suc n) = fits_more (test n) n (found test n) refl (fits n)
 
-  found_fits : (n k : ℕ) → At k ≡ found test n → test k ≡ true
+  found_fits : (n k : ℕ) → Some k ≡ found test n → test k ≡ true
   unfolding Fits
   found_fits n k e = rw (← e) at (fits n)
 
@@ -129,12 +127,12 @@ module _ (ps : List Polygon) where
       test : ℕ → Bool
       test n = is_free b a (edge_at es n)
 
-      take : (f : Found) → f ≡ found test (length es) → Joins ps i (suc j) (join_at i j es f)
-      take (At n) e =
+      take : (f : Option ℕ) → f ≡ found test (length es) → Joins ps i (suc j) (join_at i j es f)
+      take (Some n) e =
           let l = found_in test (length es) n e in
           let f = is_free_lem b a (edge_at es n) (found_fits test (length es) n e) in
           joins_set i j es r n l (record { there = h; within = k; starts = sym f.high; ends = sym f.low })
-      take Nothing e = joins_more i j es r
+      take None e = joins_more i j es r
 
       go : (t : Bool) → ltb b a ≡ t → Joins ps i (suc j) (cond t (join_at i j es (newest b a es)) es)
       go true e = take (newest b a es) refl

@@ -1,6 +1,6 @@
 -- A mesh that is handed in is sound exactly if its sentences hold: what `rules` states in its file `Handed`. Assumes nothing.
 -- Key: `sound_exactly`; `good_buffers`, `good_corners`: what the tests of 40 and 41 say, for code that goes on behind them.
-use Rattle.std.specs.Prelude.{ℕ, ◌*◌, ◌≤◌, ◌<◌, false, ◌&&◌, ◌||◌, ◌≢◌, [], leb, get_or}
+use Rattle.std.specs.Prelude.{ℕ, ◌*◌, ◌≤◌, ◌<◌, false, ◌&&◌, ◌||◌, ◌≢◌, [], leb, get_or, Option, Some, None, Result, Ok, Err, ⊤}
 use Rattle.std.proofs.Common.{arith, sym, ◌∙◌, ap}
 use Rattle.std.proofs.Math.Path.{◌≡◌, refl}
 use Rattle.std.proofs.Math.Bool.{Bool, true, not}
@@ -11,12 +11,8 @@ use Rattle.std.proofs.Math.ListN.{length}
 use Rattle.ints.specs.Bools.{and_left, and_right, or_left, or_right}
 use Rattle.mem.specs.Cases.{lt_or_le}
 use Rattle.rules.specs.declared.Vertex.{Vertex}
-use Rattle.rules.specs.declared.Found.{Found}
-use Rattle.rules.specs.declared.Found.TheVariants.{At, Nothing}
 use Rattle.rules.specs.declared.Fault.{Fault}
 use Rattle.rules.specs.declared.Fault.TheVariants.{BadBuffers, BadCorners, BadLinks}
-use Rattle.rules.specs.declared.Soundness.{Soundness}
-use Rattle.rules.specs.declared.Soundness.TheVariants.{Sound, Broken}
 use Rattle.rules.specs.Plane.{on_plane, InGrid}
 use Rattle.rules.specs.Weld.{no_vertex}
 use Rattle.rules.specs.Mesh.{side_start, side_end}
@@ -193,58 +189,58 @@ module _ (m : Handed) where
 
 -- ---- 40 to 42, in their order
 
-module _ (fault : ℕ → Fault) (rest : Soundness) where
-  not_broken : (f : Found) → or_fault fault f rest ≡ Sound → f ≡ Nothing
+module _ (fault : ℕ → Fault) (rest : Result ⊤ Fault) where
+  not_broken : (f : Option ℕ) → or_fault fault f rest ≡ (Ok tt) → f ≡ None
   unfolding or_fault
-  not_broken (At i) e = let z : ◌≡◌ {A = ℕ} 0 1 = cc in absurd (omega arith)
-  not_broken Nothing e = refl
+  not_broken (Some i) e = let z : ◌≡◌ {A = ℕ} 0 1 = cc in absurd (omega arith)
+  not_broken None e = refl
 
-  rest_sound : (f : Found) → or_fault fault f rest ≡ Sound → rest ≡ Sound
+  rest_sound : (f : Option ℕ) → or_fault fault f rest ≡ (Ok tt) → rest ≡ (Ok tt)
   unfolding or_fault
-  rest_sound (At i) e = let z : ◌≡◌ {A = ℕ} 0 1 = cc in absurd (omega arith)
-  rest_sound Nothing e = e
+  rest_sound (Some i) e = let z : ◌≡◌ {A = ℕ} 0 1 = cc in absurd (omega arith)
+  rest_sound None e = e
 
-  passed_on : {f : Found} → f ≡ Nothing → rest ≡ Sound → or_fault fault f rest ≡ Sound
+  passed_on : {f : Option ℕ} → f ≡ None → rest ≡ (Ok tt) → or_fault fault f rest ≡ (Ok tt)
   unfolding or_fault
   passed_on e h = rw e h
 
 module _ (m : Handed) where
-  abbrev in_links : Soundness
-  in_links = or_fault BadLinks (first_fault (links_hold m) (polygon_count m)) Sound
+  abbrev in_links : Result ⊤ Fault
+  in_links = or_fault BadLinks (first_fault (links_hold m) (polygon_count m)) (Ok tt)
 
-  abbrev in_order : Soundness
+  abbrev in_order : Result ⊤ Fault
   in_order = or_fault BadCorners (first_fault (corners_hold m) (polygon_count m)) in_links
 
   pub in_order_lem : buffers_hold m ≡ true → soundness m ≡ in_order
   unfolding soundness
   in_order_lem e = rw (e, soundness) refl
 
-  pub out_of_order : buffers_hold m ≡ false → soundness m ≡ Broken BadBuffers
+  pub out_of_order : buffers_hold m ≡ false → soundness m ≡ Err BadBuffers
   unfolding soundness
   out_of_order e = rw (e, soundness) refl
 
-  buffers_hold_lem : soundness m ≡ Sound → buffers_hold m ≡ true
+  buffers_hold_lem : soundness m ≡ (Ok tt) → buffers_hold m ≡ true
   buffers_hold_lem e = go (buffers_hold m) refl
     where
       go : (t : Bool) → buffers_hold m ≡ t → buffers_hold m ≡ true
       go true q = q
       go false q = let x = sym (out_of_order q) ∙ e in let z : ◌≡◌ {A = ℕ} 0 1 = cc in absurd (omega arith)
 
-  consistent : soundness m ≡ Sound → Consistent m
+  consistent : soundness m ≡ (Ok tt) → Consistent m
   consistent e =
       let corners = sym (in_order_lem (buffers_hold_lem e)) ∙ e in
       let links = rest_sound BadCorners in_links (first_fault (corners_hold m) (polygon_count m)) corners in
       record {
         buffers = good_buffers m (buffers_hold_lem e);
         corners = λ i h. good_corners m i (fault_none (corners_hold m) (polygon_count m) (not_broken BadCorners in_links _ corners) i h);
-        links = λ i h. good_links m i (fault_none (links_hold m) (polygon_count m) (not_broken BadLinks Sound _ links) i h);
+        links = λ i h. good_links m i (fault_none (links_hold m) (polygon_count m) (not_broken BadLinks (Ok tt) _ links) i h);
       }
 
-  sound : Consistent m → soundness m ≡ Sound
+  sound : Consistent m → soundness m ≡ (Ok tt)
   sound c =
       in_order_lem (buffers_good m c.buffers)
       ∙ passed_on BadCorners in_links (no_fault (corners_hold m) (polygon_count m) (λ i h. corners_good m i (c.corners i h)))
-      (passed_on BadLinks Sound (no_fault (links_hold m) (polygon_count m) (λ i h. links_good m i (c.links i h))) refl)
+      (passed_on BadLinks (Ok tt) (no_fault (links_hold m) (polygon_count m) (λ i h. links_good m i (c.links i h))) refl)
 
 pub sound_exactly : SoundExactly
 sound_exactly m = (consistent m, sound m)

@@ -1,6 +1,6 @@
 -- R6 and R7: a link is the number of a polygon, none, or a portal; and there is one for each side. Assumes nothing.
 -- Key: `links_up_to`, `portals_up_to`: how great a link is; `links_shaped`, `portals_shaped`: one for each side.
-use Rattle.std.specs.Prelude.{ℕ, zero, suc, ◌≤◌, ◌<◌, ◌≡◌, refl, ◌&&◌, ◌≢◌, eqb, ltb, length, get_or, set, replicate}
+use Rattle.std.specs.Prelude.{ℕ, zero, suc, ◌≤◌, ◌<◌, ◌≡◌, refl, ◌&&◌, ◌≢◌, eqb, ltb, length, get_or, set, replicate, Option, Some, None}
 use native.Mathlib.Omega.{arith}
 use Rattle.std.proofs.Common.{sym, ◌∙◌, ap, ⊎_elim, length-set, get_or-set_same, get_or-set_other}
 use mathlib.Core.List.{List, [], ◌∷◌}
@@ -15,8 +15,6 @@ use Rattle.mem.specs.Packed.{Every, every_at, every_of, every_nil, every_set, ev
 use Rattle.rules.specs.declared.Point.{Point}
 use Rattle.rules.specs.declared.Vertex.{Vertex}
 use Rattle.rules.specs.declared.Edge.{Edge}
-use Rattle.rules.specs.declared.Found.{Found}
-use Rattle.rules.specs.declared.Found.TheVariants.{At, Nothing}
 use Rattle.rules.specs.Mesh.{Polygon, no_polygon, polygon_at, side_start, side_end}
 use Rattle.rules.specs.Links.{none, no_edge, each_side, record_side, newest, joined_to, join_at, join_side, edges_of, set_link, store_edge, no_links, links_of}
 use Rattle.rules.specs.Portals.{portal_of, portal_at, portals_in, portals}
@@ -48,11 +46,11 @@ module _ (ps : List Polygon) (few : length ps < none) where
       cond_ind (Every Small no_edge) (ltb a b)
       (every_append Small no_edge es (e ∷ []) k (every_same Small no_edge 1 e no_edge_lem (record { poly = omega arith; other = omega arith }))) k
 
-  at_small : (i j : ℕ) (es : List Edge) (f : Found) → i < length ps → Every Small no_edge es → Every Small no_edge (join_at i j es f)
+  at_small : (i j : ℕ) (es : List Edge) (f : Option ℕ) → i < length ps → Every Small no_edge es → Every Small no_edge (join_at i j es f)
   unfolding join_at joined_to
-  at_small i j es (At k) h s =
+  at_small i j es (Some k) h s =
       every_set Small no_edge es k (joined_to i j (get_or es k no_edge)) s (record { poly = (every_at Small no_edge es s k).poly; other = omega arith })
-  at_small i j es Nothing h s = s
+  at_small i j es None h s = s
 
   join_small : (i j : ℕ) (es : List Edge) → i < length ps → Every Small no_edge es → Every Small no_edge (join_side ps i j es)
   unfolding join_side

@@ -10,7 +10,7 @@ use Rattle.mem.specs.Cases.{lt_or_le, eq_or_ne}
 use Rattle.mem.specs.Loops.{each, steps}
 use Rattle.rules.specs.Merge.{no_pair, greater}
 use Rattle.rules.specs.declared.Pair.{Pair}
-use Rattle.laws.specs.Longest.{None, First, Best, size}
+use Rattle.laws.specs.Longest.{Never, First, Best, size}
 
 -- ---- the longer of two
 
@@ -57,7 +57,7 @@ module _ (f : ℕ → Pair) where
   each_greater i n s = ap (steps add i (n - i)) (sym (greater_none s)) ∙ steps_greater (n - i) i s no_pair
 
   upper : (i n : ℕ) (m : Pair) → Best f i n m → (j : ℕ) → i ≤ j → j < n → (f j).length ≤ m.length
-  upper i n m b j h k = ⊎_elim (λ (z : None f i n m). omega (arith, z.all j h k)) (λ (r : First f i n m). r.most j h k) b
+  upper i n m b j h k = ⊎_elim (λ (z : Never f i n m). omega (arith, z.all j h k)) (λ (r : First f i n m). r.most j h k) b
 
   best_more : (i k : ℕ) (s : Pair) → i ≤ k → Best f i k s → Best f i (suc k) (greater s (f k))
   best_more i k s h b =
@@ -74,7 +74,7 @@ module _ (f : ℕ → Pair) where
       })))
       (λ (l : (f k).length ≤ s.length). rw (greater_first s (f k) l)
       (⊎_elim
-      (λ (z : None f i k s). inl (record {
+      (λ (z : Never f i k s). inl (record {
         is = z.is;
         all = λ j p q.
             ⊎_elim (λ (e : j ≡ k). rw e (omega (arith, ap size z.is))) (λ (e : j ≢ k). z.all j p (omega (arith, e))) (eq_or_ne j k);
@@ -104,11 +104,11 @@ module _ (f : ℕ → Pair) where
   pub best_one : (i n : ℕ) (m k : Pair) → Best f i n m → Best f i n k → m ≡ k
   best_one i n m k x y =
       ⊎_elim
-      (λ (a : None f i n m). ⊎_elim (λ (b : None f i n k). a.is ∙ sym b.is) (λ (b : First f i n k). absurd (never m k a b)) y)
-      (λ (a : First f i n m). ⊎_elim (λ (b : None f i n k). absurd (never k m b a)) (λ (b : First f i n k). both a b) y)
+      (λ (a : Never f i n m). ⊎_elim (λ (b : Never f i n k). a.is ∙ sym b.is) (λ (b : First f i n k). absurd (never m k a b)) y)
+      (λ (a : First f i n m). ⊎_elim (λ (b : Never f i n k). absurd (never k m b a)) (λ (b : First f i n k). both a b) y)
       x
     where
-      never : (m k : Pair) → None f i n m → First f i n k → ⊥
+      never : (m k : Pair) → Never f i n m → First f i n k → ⊥
       never m k a b = omega (arith, a.all b.at b.from b.to, ap size b.is, b.some)
 
       both : First f i n m → First f i n k → m ≡ k
@@ -145,7 +145,7 @@ module _ (f g : ℕ → Pair) (i n a b : ℕ) (m : Pair) (own : (j : ℕ) → 0 
   pub best_kept : Best f i (n + 1) m → Best g i n m
   best_kept x =
       ⊎_elim
-      (λ (z : None f i (n + 1) m). inl (record {
+      (λ (z : Never f i (n + 1) m). inl (record {
         is = z.is;
         all = λ j h k. three (λ p. p.length ≡ 0) j h k
             (λ p (w : (p.length ≡ 0) ⊎ (p.length < m.length)).

@@ -2,7 +2,7 @@
 -- Key: `mend_keeps_area`, `mend_settles`, `mend_twice`, `mend_counted`, the statements of `rules`; `mend_ind`: what every step keeps holds at the end.
 use Prim.Native.Nat.{ℕ, zero, suc, ◌+◌, ◌-◌, ◌≤◌, ◌<◌}
 use Rattle.std.proofs.Common.{arith, sym, ◌∙◌, subst, inl, inr, ⊎_elim}
-use Rattle.std.specs.Prelude.{◌≡◌, true, false, ltb, length, get_or, set}
+use Rattle.std.specs.Prelude.{◌≡◌, true, false, ltb, length, get_or, set, Some, None}
 use Rattle.std.proofs.Math.Path.{refl, ap, ap₂}
 use mathlib.Core.List.{List, [], ◌∷◌, map}
 use borrow.Author.Tests.{ltb-true, ltb-false}
@@ -11,7 +11,6 @@ use Rattle.std.proofs.lemmas.List.{length-map}
 use Rattle.std.proofs.Math.Seq.{map-set_same}
 use Rattle.mem.specs.Cases.{lt_or_le, by_test}
 use Rattle.rules.specs.declared.Point.{Point}
-use Rattle.rules.specs.declared.Found.TheVariants.{At, Nothing}
 use Rattle.rules.specs.Lists.{next, without}
 use Rattle.rules.specs.Plane.{area}
 use Rattle.rules.specs.Mend.{Traced, no_traced, stands_at, trace_places, is_doubled, is_at_fault, lowest_fault, Mending, takes_flag, lose_after, place_then}
@@ -83,11 +82,11 @@ module _ (f : ℕ) (m : Mending) where
   unfolding mend_loop
   loop_few e = rw (e, mend_loop) refl
 
-  loop_none : ltb (left_in m) 3 ≡ false → lowest_fault (places_in m) ≡ Nothing → mend_loop (suc f) m ≡ m
+  loop_none : ltb (left_in m) 3 ≡ false → lowest_fault (places_in m) ≡ None → mend_loop (suc f) m ≡ m
   unfolding mend_loop
   loop_none e g = rw (e, mend_loop, g) refl
 
-  pub loop_at : (i : ℕ) → ltb (left_in m) 3 ≡ false → lowest_fault (places_in m) ≡ At i → mend_loop (suc f) m ≡ mend_loop f (mend_at i m)
+  pub loop_at : (i : ℕ) → ltb (left_in m) 3 ≡ false → lowest_fault (places_in m) ≡ Some i → mend_loop (suc f) m ≡ mend_loop f (mend_at i m)
   unfolding mend_loop
   loop_at i e g = rw (e, mend_loop, g) refl
 

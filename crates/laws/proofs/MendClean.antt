@@ -2,14 +2,13 @@
 -- and that a loss there leaves such a stack again. Assumes nothing.
 -- Key: `one_lowest`, `two_lowest`, `joins`: while points are passed; `near_lowest`, `last_lowest`, `last_lowest_two`, `ends_clear`: when all are;
 -- `clean_one`, `clean_two`, `clean_near`, `clean_last`, `clean_last_two`: what a loss leaves.
-use Rattle.std.specs.Prelude.{ℕ, ◌+◌, ◌-◌, ◌≤◌, ◌<◌, ◌≡◌, true, false, ◌&&◌, List, ltb, length, get_or}
+use Rattle.std.specs.Prelude.{ℕ, ◌+◌, ◌-◌, ◌≤◌, ◌<◌, ◌≡◌, true, false, ◌&&◌, List, ltb, length, get_or, Some, None}
 use native.Mathlib.Omega.{arith}
 use Rattle.std.proofs.Math.Path.{refl, ap}
 use Rattle.std.proofs.Common.{sym, ◌∙◌, ap₂, lt-ltb}
 use Rattle.std.proofs.Math.Logic.{⊎_elim}
 use Rattle.mem.specs.Cases.{lt_or_le}
 use Rattle.rules.specs.declared.Point.{Point}
-use Rattle.rules.specs.declared.Found.TheVariants.{At, Nothing}
 use Rattle.rules.specs.Plane.{origin, vequal}
 use Rattle.rules.specs.Mend.{is_doubled, is_spike, is_at_fault, lowest_fault}
 use Rattle.laws.proofs.Lists.{without_below, without_above}
@@ -82,14 +81,14 @@ module _ (l : List Point) (s : ℕ) (c : Clean l s) (some : 1 ≤ s) (h : s < le
       none_here l j (doubled_in l j (omega arith) ∙ clear) (spike_in l j (omega arith) ∙ meet_same l j (j + 1) (j + 2) (sym (ap₂ (meet l) p q) ∙ e) ∙ clear))
       (lt_or_le (j + 2) s)
 
-  pub one_lowest : meet l (s - 1) s ≡ true → lowest_fault l ≡ At (s - 1)
+  pub one_lowest : meet l (s - 1) s ≡ true → lowest_fault l ≡ Some (s - 1)
   unfolding lowest_fault
   one_lowest e = first_is (is_at_fault l) (length l) (s - 1) (omega arith) (one_here l (s - 1) (one_is e)) (one_before e)
 
   pub two_not : 2 ≤ s → is_doubled l (s - 2) ≡ false
   two_not k = doubled_in l (s - 2) (omega arith) ∙ c.ones (s - 2) (omega arith)
 
-  pub two_lowest : 2 ≤ s → meet l (s - 2) s ≡ true → lowest_fault l ≡ At (s - 2)
+  pub two_lowest : 2 ≤ s → meet l (s - 2) s ≡ true → lowest_fault l ≡ Some (s - 2)
   unfolding lowest_fault
   two_lowest k e = let p : s - 2 + 2 ≡ s = omega arith in
       first_is (is_at_fault l) (length l) (s - 2) (omega arith)
@@ -118,7 +117,7 @@ module _ (l : List Point) (n : ℕ) (len : length l ≡ n) (c : Clean l n) (thre
   last_two : is_spike l (n - 1) ≡ meet l (n - 1) 1
   last_two = spike_last l (n - 1) (omega arith) (omega arith)
 
-  pub near_lowest : meet l (n - 2) 0 ≡ true → lowest_fault l ≡ At (n - 2)
+  pub near_lowest : meet l (n - 2) 0 ≡ true → lowest_fault l ≡ Some (n - 2)
   unfolding lowest_fault
   near_lowest e = first_is (is_at_fault l) (length l) (n - 2) (omega arith) (two_here l (n - 2) near_not (near_is ∙ e))
       (λ j a. clean_below l n j c (omega arith) (omega arith))
@@ -128,15 +127,15 @@ module _ (l : List Point) (n : ℕ) (len : length l ≡ n) (c : Clean l n) (thre
     below_last j h = ⊎_elim (clean_below l n j c (omega arith))
         (λ (a : n ≤ j + 2). let p : j ≡ n - 2 = omega arith in rw p (none_here l (n - 2) near_not (near_is ∙ e))) (lt_or_le (j + 2) n)
 
-    pub last_lowest : meet l (n - 1) 0 ≡ true → lowest_fault l ≡ At (n - 1)
+    pub last_lowest : meet l (n - 1) 0 ≡ true → lowest_fault l ≡ Some (n - 1)
     unfolding lowest_fault
     last_lowest f = first_is (is_at_fault l) (length l) (n - 1) (omega arith) (one_here l (n - 1) (last_one ∙ f)) below_last
 
-    pub last_lowest_two : meet l (n - 1) 0 ≡ false → meet l (n - 1) 1 ≡ true → lowest_fault l ≡ At (n - 1)
+    pub last_lowest_two : meet l (n - 1) 0 ≡ false → meet l (n - 1) 1 ≡ true → lowest_fault l ≡ Some (n - 1)
     unfolding lowest_fault
     last_lowest_two f g = first_is (is_at_fault l) (length l) (n - 1) (omega arith) (two_here l (n - 1) (last_one ∙ f) (last_two ∙ g)) below_last
 
-    pub ends_clear : meet l (n - 1) 0 ≡ false → meet l (n - 1) 1 ≡ false → lowest_fault l ≡ Nothing
+    pub ends_clear : meet l (n - 1) 0 ≡ false → meet l (n - 1) 1 ≡ false → lowest_fault l ≡ None
     unfolding lowest_fault
     ends_clear f g = first_no (is_at_fault l) (length l) (λ j h. ⊎_elim (below_last j)
         (λ (a : n - 1 ≤ j). let p : j ≡ n - 1 = omega arith in rw p (none_here l (n - 1) (last_one ∙ f) (last_two ∙ g))) (lt_or_le j (n - 1)))

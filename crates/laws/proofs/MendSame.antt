@@ -1,10 +1,9 @@
 -- Request 12: the quick way gives what the sentences give. Assumes nothing.
 -- Key: `quick_same`: quick_mended ps ≡ mended ps; `stack_same`, `ends_same`: of the walk and of the ends.
-use Rattle.std.specs.Prelude.{ℕ, zero, suc, ◌+◌, ◌-◌, ◌≤◌, ◌<◌, ◌≡◌, refl, true, false, ◌&&◌, List, [], ◌∷◌, ltb, length}
+use Rattle.std.specs.Prelude.{ℕ, zero, suc, ◌+◌, ◌-◌, ◌≤◌, ◌<◌, ◌≡◌, refl, true, false, ◌&&◌, List, [], ◌∷◌, ltb, length, Some, None}
 use Rattle.std.proofs.Common.{arith, sym, ◌∙◌, ap₂, subst, inl, inr, ltb-true, ltb-false, le-ltb}
 use Rattle.ints.specs.Bools.{and_left, and_right}
 use Rattle.mem.specs.Cases.{by_test}
-use Rattle.rules.specs.declared.Found.TheVariants.{At, Nothing}
 use Rattle.rules.specs.Mend.{Traced, is_doubled, is_at_fault, lowest_fault, Mending, lose_after, lose_two, mend_at, mend_loop, mended}
 use Rattle.laws.proofs.Lowest.{first_none}
 use Rattle.laws.specs.MendLoss.{lost_one, lost_two}
@@ -18,23 +17,23 @@ use Rattle.laws.proofs.MendClean.{clean_first, one_is, one_lowest, two_not, two_
 use Rattle.laws.proofs.MendClean.{near_not, near_lowest, clean_near, last_one, last_lowest, clean_last, last_lowest_two, clean_last_two, ends_clear}
 
 -- ---- a turn of the sentences' loop
-mend_turn : (f i : ℕ) (m k : Mending) → 3 ≤ left_in m → left_in m ≤ f → lowest_fault (places_in m) ≡ At i → mend_at i m ≡ k → mend_loop f m ≡ mend_loop (f - 1) k
+mend_turn : (f i : ℕ) (m k : Mending) → 3 ≤ left_in m → left_in m ≤ f → lowest_fault (places_in m) ≡ Some i → mend_at i m ≡ k → mend_loop f m ≡ mend_loop (f - 1) k
 mend_turn zero i m k n h e p = absurd (omega arith)
 mend_turn (suc f) i m k n h e p = let q : suc f - 1 ≡ f = omega arith in loop_at f m i (le-ltb (left_in m) 3 n) e ∙ ap₂ mend_loop (sym q) p
 
 mend_few : (f : ℕ) (m : Mending) → left_in m < 3 → mend_loop f m ≡ m
 mend_few f m h = settled_stays f m (inl (omega (arith, length_places m)))
 
-mend_none : (f : ℕ) (m : Mending) → lowest_fault (places_in m) ≡ Nothing → mend_loop f m ≡ m
+mend_none : (f : ℕ) (m : Mending) → lowest_fault (places_in m) ≡ None → mend_loop f m ≡ m
 unfolding lowest_fault
 mend_none f m e = settled_stays f m (inr (first_none (is_at_fault (places_in m)) (length (places_in m)) e))
 
 -- one is lost at i, or two
 module _ (f : ℕ) (m : Mending) (few : left_in m ≤ f) (three : 3 ≤ left_in m) where
-  turn_one : (i : ℕ) → lowest_fault (places_in m) ≡ At i → is_doubled (places_in m) i ≡ true → mend_loop f m ≡ mend_loop (f - 1) (lose_after i m)
+  turn_one : (i : ℕ) → lowest_fault (places_in m) ≡ Some i → is_doubled (places_in m) i ≡ true → mend_loop f m ≡ mend_loop (f - 1) (lose_after i m)
   turn_one i e d = mend_turn f i m (lose_after i m) three few e (mend_one i m d)
 
-  turn_two : (i : ℕ) → lowest_fault (places_in m) ≡ At i → is_doubled (places_in m) i ≡ false → mend_loop f m ≡ mend_loop (f - 1) (lose_two i m)
+  turn_two : (i : ℕ) → lowest_fault (places_in m) ≡ Some i → is_doubled (places_in m) i ≡ false → mend_loop f m ≡ mend_loop (f - 1) (lose_two i m)
   turn_two i e d = mend_turn f i m (lose_two i m) three few e (mend_two i m d)
 
 -- the stack that is left

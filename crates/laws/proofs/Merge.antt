@@ -1,6 +1,6 @@
 -- R4: a join cancels a side and its opposite, so merging keeps the area and the corners over two; the pair that is joined is in range. Assumes nothing.
 -- Key: `merged`: the polygons at the end have the area and the corners beyond two of those at the start, and are stored polygons; `best_in`: the pair is in range.
-use Rattle.std.specs.Prelude.{ℕ, zero, suc, ◌+◌, ◌-◌, ◌≤◌, ◌<◌, ◌≡◌, Bool, cond, ◌&&◌, eqb, ltb, get_or, set, ℤ, ◌+ℤ◌}
+use Rattle.std.specs.Prelude.{ℕ, zero, suc, ◌+◌, ◌-◌, ◌≤◌, ◌<◌, ◌≡◌, Bool, cond, ◌&&◌, eqb, ltb, get_or, set, ℤ, ◌+ℤ◌, Option, Some, None}
 use Rattle.std.proofs.Common.{arith, ◌∙◌, ap₂, length-append, length-set, get_or-set_other}
 use Rattle.std.proofs.Math.Path.{refl}
 use Rattle.std.proofs.Math.Bool.{true, false}
@@ -13,8 +13,6 @@ use Rattle.ints.specs.Bools.{and_left, and_right, cond_ind}
 use Rattle.mem.specs.Loops.{each_ind}
 use Rattle.rules.specs.declared.Vertex.{Vertex}
 use Rattle.rules.specs.declared.Pair.{Pair}
-use Rattle.rules.specs.declared.Shared.{Shared}
-use Rattle.rules.specs.declared.Shared.TheVariants.{Sides, NoSide}
 use Rattle.rules.specs.Plane.{squared}
 use Rattle.rules.specs.Mesh.{Polygon, no_polygon, polygon_at, side_start, side_end, place_of}
 use Rattle.rules.specs.Merge.{is_opposite, shared_side, turns_left, may_join, fits, no_pair, pair_at, merge_value, greater, best_of_row, best_pair, past_side, joined, join_pair, merge_loop, merge_all}
@@ -46,10 +44,10 @@ module _ (vs : List Vertex) (nvp : ℕ) (ps : List Polygon) (p q : ℕ) (h : p <
   b : List ℕ
   b = (polygon_at ps q).corners
 
-  pair_in : (s : Shared) → fits nvp a b ≡ true → SidesIn (length a) (length b) s → JoinableIf nvp ps (pair_at vs ps p q s)
+  pair_in : (s : Option (ℕ × ℕ)) → fits nvp a b ≡ true → SidesIn (length a) (length b) s → JoinableIf nvp ps (pair_at vs ps p q s)
   unfolding a b SidesIn pair_at JoinableIf may_join is_opposite fits
-  pair_in NoSide f w = λ z. absurd (omega arith)
-  pair_in (Sides i j) f w = go (may_join vs a b i j) refl
+  pair_in None f w = λ z. absurd (omega arith)
+  pair_in (Some (i, j)) f w = go (may_join vs a b i j) refl
     where
       go : (t : Bool) → may_join vs a b i j ≡ t
           → JoinableIf nvp ps (cond t (record { length = squared (place_of vs (side_start a i)) (place_of vs (side_end a i)); a = p; b = q; ea = i; eb = j }) no_pair)

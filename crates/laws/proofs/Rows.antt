@@ -1,7 +1,7 @@
 -- Kept rows: R4's best pair, from the best pair of each polygon with one after it, and what a join leaves of these. Assumes nothing.
 -- Key: `row_is`: what a row is; `best_rows`: the best over the rows is the best pair; `row_stays`: a row that a join doesn't make stale is a row of what the
 -- join leaves.
-use Rattle.std.specs.Prelude.{◌≡◌, Bool, ◌||◌, ◌⊎◌, List, ℕ, ◌+◌, ◌-◌, ◌≤◌, ◌<◌, eqb, set}
+use Rattle.std.specs.Prelude.{◌≡◌, Bool, ◌||◌, ◌⊎◌, List, ℕ, ◌+◌, ◌-◌, ◌≤◌, ◌<◌, eqb, set, Option, Some, None}
 use Rattle.std.proofs.Math.Path.{refl, ap}
 use Rattle.std.proofs.Common.{sym, ap₂, ◌∙◌, inl, inr, arith, length-set, get_or-take, get_or-set_other, lt-ltb, leb-false}
 use Rattle.std.proofs.Math.Bool.{true, false}
@@ -17,12 +17,10 @@ use Rattle.rules.specs.Mesh.{Polygon, no_polygon, polygon_at, side_start, side_e
 use Rattle.rules.specs.Merge.{fits, shared_side, may_join, no_pair, pair_at, merge_value, greater, best_of_row, best_pair, joined, join_pair}
 use Rattle.rules.specs.declared.Vertex.{Vertex}
 use Rattle.rules.specs.declared.Pair.{Pair}
-use Rattle.rules.specs.declared.Shared.{Shared}
-use Rattle.rules.specs.declared.Shared.TheVariants.{Sides, NoSide}
 use Rattle.laws.specs.Merge.{Joinable}
 use Rattle.laws.proofs.Merge.{row_joinable}
 use Rattle.laws.proofs.Fuel.{length_join}
-use Rattle.laws.specs.Longest.{None, First, Best, size}
+use Rattle.laws.specs.Longest.{Never, First, Best, size}
 use Rattle.laws.proofs.Longest.{add, each_greater, each_best, best_one, best_kept}
 use Rattle.laws.specs.Rows.{row_of, is_moved, is_rival, is_reached, is_stale, After, Own, row_against, Still}
 
@@ -32,7 +30,7 @@ no_own : (p q : ℕ) → Own p q no_pair
 no_own p q = record { first = λ h. absurd (omega arith); second = λ h. absurd (omega arith) }
 
 -- the value, from its two tests
-picked : List Vertex → List Polygon → ℕ → ℕ → Bool → Shared → Pair
+picked : List Vertex → List Polygon → ℕ → ℕ → Bool → Option (ℕ × ℕ) → Pair
 picked vs ps p q t s = elim t [ true ↦ pair_at vs ps p q s | false ↦ no_pair ]
 
 value_picked : (vs : List Vertex) (nvp : ℕ) (ps : List Polygon) (p q : ℕ) → merge_value vs nvp ps p q
@@ -41,16 +39,16 @@ unfolding merge_value picked
 value_picked vs nvp ps p q = refl
 
 module _ (vs : List Vertex) (ps : List Polygon) (p q : ℕ) where
-  pair_own : (s : Shared) → Own p q (pair_at vs ps p q s)
+  pair_own : (s : Option (ℕ × ℕ)) → Own p q (pair_at vs ps p q s)
   unfolding pair_at
-  pair_own NoSide = no_own p q
-  pair_own (Sides i j) =
+  pair_own None = no_own p q
+  pair_own (Some (i, j)) =
       let a = (polygon_at ps p).corners in
       cond_ind (Own p q) (may_join vs a (polygon_at ps q).corners i j)
       {x = record { length = squared (place_of vs (side_start a i)) (place_of vs (side_end a i)); a = p; b = q; ea = i; eb = j }} {y = no_pair}
       (record { first = λ h. refl; second = λ h. refl }) (no_own p q)
 
-  picked_own : (t : Bool) (s : Shared) → Own p q (picked vs ps p q t s)
+  picked_own : (t : Bool) (s : Option (ℕ × ℕ)) → Own p q (picked vs ps p q t s)
   unfolding picked
   picked_own true s = pair_own s
   picked_own false s = no_own p q
@@ -59,12 +57,12 @@ value_own : (vs : List Vertex) (nvp : ℕ) (ps : List Polygon) (p q : ℕ) → O
 value_own vs nvp ps p q = rw (value_picked vs nvp ps p q) (picked_own vs ps p q _ _)
 
 module _ (vs : List Vertex) (nvp : ℕ) (ps qs : List Polygon) (p q : ℕ) (e : polygon_at qs p ≡ polygon_at ps p) (d : polygon_at qs q ≡ polygon_at ps q) where
-  pair_same : (s : Shared) → pair_at vs qs p q s ≡ pair_at vs ps p q s
+  pair_same : (s : Option (ℕ × ℕ)) → pair_at vs qs p q s ≡ pair_at vs ps p q s
   unfolding pair_at
-  pair_same NoSide = refl
-  pair_same (Sides i j) = rw (e, d)
+  pair_same None = refl
+  pair_same (Some (i, j)) = rw (e, d)
 
-  picked_same : (t : Bool) (s : Shared) → picked vs qs p q t s ≡ picked vs ps p q t s
+  picked_same : (t : Bool) (s : Option (ℕ × ℕ)) → picked vs qs p q t s ≡ picked vs ps p q t s
   unfolding picked
   picked_same true s = pair_same s
   picked_same false s = refl
@@ -104,7 +102,7 @@ module _ (vs : List Vertex) (nvp : ℕ) (ps : List Polygon) (p : ℕ) where
   row_is h =
       let m : Pair = row_of vs nvp ps p in
       ⊎_elim
-      (λ (z : None (merge_value vs nvp ps p) (p + 1) (length ps) (row_of vs nvp ps p)).
+      (λ (z : Never (merge_value vs nvp ps p) (p + 1) (length ps) (row_of vs nvp ps p)).
       let l : m.length ≡ 0 = ap size z.is in
       record { none = λ e. z.is; first = λ (k : 0 < m.length). absurd (omega arith); joinable = row_joinable vs nvp ps p h })
       (λ (r : First (merge_value vs nvp ps p) (p + 1) (length ps) (row_of vs nvp ps p)). record {

@@ -1,7 +1,7 @@
 -- A search for the highest number that fits, along a chain: where all numbers that fit have one key, the first that fits on the walk along that key's chain,
 -- newest first, is the highest of all. Serves the weld's buckets and the edges of a vertex alike. Assumes nothing.
 -- Key: `walk_found` and `walk_none`: what the walk finds is what looking through all numbers finds; `found_in`: it is one of them.
-use Rattle.std.specs.Prelude.{◌≡◌, Bool, ◌≢◌}
+use Rattle.std.specs.Prelude.{◌≡◌, Bool, ◌≢◌, Option, Some, None}
 use Rattle.std.proofs.Math.Path.{refl, sym}
 use Rattle.std.proofs.Common.{ap, ◌∙◌, add-one}
 use Rattle.std.proofs.Math.Bool.{true, false}
@@ -9,8 +9,6 @@ use Prim.Native.Nat.{ℕ, zero, suc, ◌+◌, ◌≤◌, ◌<◌}
 use native.Mathlib.Omega.{arith}
 use Rattle.mem.specs.Chain.{highest, highest_at, highest_most, walk_at, walk_end}
 use Rattle.rules.specs.Lists.{when, or_else, down}
-use Rattle.rules.specs.declared.Found.{Found}
-use Rattle.rules.specs.declared.Found.TheVariants.{At, Nothing}
 use Rattle.laws.specs.Searches.{found, Walk}
 
 module _ (test : ℕ → Bool) where
@@ -22,28 +20,28 @@ module _ (test : ℕ → Bool) where
   unfolding or_else when
   miss k e = more k ∙ rw e
 
-  hit : (k : ℕ) → test k ≡ true → found test (k + 1) ≡ At k
+  hit : (k : ℕ) → test k ≡ true → found test (k + 1) ≡ Some k
   unfolding or_else when
   hit k e = more k ∙ rw e
 
   -- ---- what is found is one of the numbers
 
-  Inside : ℕ → Found → Type 0
-  Inside n (At k) = k < n
-  Inside n Nothing = Unit
+  Inside : ℕ → Option ℕ → Type 0
+  Inside n (Some k) = k < n
+  Inside n None = Unit
 
-  inside_more : (n : ℕ) (t : Bool) (f : Found) → Inside n f → Inside (suc n) (or_else (when t n) f)
+  inside_more : (n : ℕ) (t : Bool) (f : Option ℕ) → Inside n f → Inside (suc n) (or_else (when t n) f)
   unfolding Inside or_else when
   inside_more n true f h = omega arith
-  inside_more n false (At k) h = omega arith
-  inside_more n false Nothing h = tt
+  inside_more n false (Some k) h = omega arith
+  inside_more n false None h = tt
 
   inside : (n : ℕ) → Inside n (found test n)
   unfolding down Inside
   inside zero = tt
   inside (suc n) = inside_more n (test n) (found test n) (inside n)
 
-  pub found_in : (n k : ℕ) → At k ≡ found test n → k < n
+  pub found_in : (n k : ℕ) → Some k ≡ found test n → k < n
   unfolding Inside
   found_in n k e = rw (← e) at (inside n)
 
@@ -57,7 +55,7 @@ module _ (test : ℕ → Bool) (key : ℕ → ℕ) (b : ℕ) (keyed : (k : ℕ) 
       go false e = miss test j e
 
   module _ (n : ℕ) {link : ℕ} (r : Walk test key b n link) where
-    pub walk_none : link ≤ 0 → Nothing ≡ found test n
+    pub walk_none : link ≤ 0 → None ≡ found test n
     unfolding down
     walk_none h =
         let z : highest key b r.m ≡ 0 = omega (arith, r.at) in
@@ -73,7 +71,7 @@ module _ (test : ℕ → Bool) (key : ℕ → ℕ) (b : ℕ) (keyed : (k : ℕ) 
       past : found test n ≡ found test (k + 1)
       past = r.same ∙ walk_at key b (found test) blind r.m k here
 
-      pub walk_found : test k ≡ true → At k ≡ found test n
+      pub walk_found : test k ≡ true → Some k ≡ found test n
       walk_found t = sym (past ∙ hit test k t)
 
       pub walk_next : {next : ℕ} → next ≡ highest key (key k) k → test k ≡ false → Walk test key b n next

@@ -1,7 +1,7 @@
 -- Stamps: a word for a polygon's corners, one of 32 bits for each. Two polygons that share a side have a corner in common, and so a bit of their stamps: where
 -- the stamps have none in common the two can't be merged, and neither need be looked at. Assumes nothing.
 -- Key: `apart_value`.
-use Rattle.std.specs.Prelude.{◌≡◌, Bool, ◌≢◌, List, ℕ, zero, suc, ◌/◌, ◌%◌, ◌^◌, ◌<◌, min, max, eqb, length, get_or}
+use Rattle.std.specs.Prelude.{◌≡◌, Bool, ◌≢◌, List, ℕ, zero, suc, ◌/◌, ◌%◌, ◌^◌, ◌<◌, min, max, eqb, length, get_or, None}
 use Rattle.std.proofs.Math.Path.{refl}
 use Rattle.std.proofs.Common.{ap, ◌∙◌, ⊎_elim, arith, eqb-true, pow_pos}
 use Rattle.std.proofs.Math.Bool.{true, false}
@@ -16,7 +16,6 @@ use Rattle.rules.specs.Mesh.{Polygon, polygon_at, side_start, side_end}
 use Rattle.rules.specs.Merge.{is_along, is_opposite, is_equal, shared_side, fits, no_pair, pair_at, merge_value}
 use Rattle.rules.specs.declared.Vertex.{Vertex}
 use Rattle.rules.specs.declared.Pair.{Pair}
-use Rattle.rules.specs.declared.Shared.TheVariants.{NoSide}
 use Rattle.laws.proofs.Ring.{next_below}
 use Rattle.laws.proofs.Shared.{shared_ind}
 use Rattle.laws.specs.Stamps.{stamp_bit, stamp_with, stamp_of}
@@ -93,8 +92,8 @@ module _ (a b : List ℕ) (apart : bit_and (stamp_of a) (stamp_of b) ≡ 0) wher
           no_corner i (next j (length b)) h (next_below j (length b) (omega arith))
           (eqb-true (side_start a i) (side_end b j) (and_left (eqb (side_start a i) (side_end b j)) (eqb (side_end a i) (side_start b j)) g))
 
-  apart_side : shared_side a b ≡ NoSide
-  apart_side = shared_ind a b (λ s. s ≡ NoSide) refl (λ i j h k e. absurd (no_equal i j h k e))
+  apart_side : shared_side a b ≡ None
+  apart_side = shared_ind a b (λ s. s ≡ None) refl (λ i j h k e. absurd (no_equal i j h k e))
 
 pub apart_value : (vs : List Vertex) (nvp : ℕ) (ps : List Polygon) (p q : ℕ)
     → bit_and (stamp_of (polygon_at ps p).corners) (stamp_of (polygon_at ps q).corners) ≡ 0 → merge_value vs nvp ps p q ≡ no_pair

@@ -1,7 +1,7 @@
 -- Request 11, what `rules` states in its file `Stl`: a file that was written reads back as its facets, bit for bit; its length; and its count of facets, which
 -- fits 32 bits. Assumes nothing.
 -- Key: `reads_back`, `mesh_reads_back`, `file_is_long`, `count_fits`; `over_through` and `sum_most`, for loops over polygons.
-use Rattle.std.specs.Prelude.{◌≡◌, false, ◌&&◌, ◌||◌, ltb, Float}
+use Rattle.std.specs.Prelude.{◌≡◌, false, ◌&&◌, ◌||◌, ltb, Float, None}
 use Rattle.std.proofs.Math.Path.{refl, sym, ap}
 use Rattle.std.proofs.Common.{◌∙◌}
 use Rattle.std.proofs.Math.Bool.{true}
@@ -22,7 +22,6 @@ use Rattle.mem.specs.Tab.{blocks, length_tab}
 use Rattle.mem.specs.Packed.{packed, length_packed, packed_view, Every, every_of, every_at, every_same, every_append, every_tab}
 use Rattle.rules.specs.Mesh.{Polygon, polygon_at}
 use Rattle.rules.specs.declared.Vertex.{Vertex}
-use Rattle.rules.specs.declared.Found.TheVariants.{Nothing}
 use Rattle.rules.specs.Stl.{coordinate, little, corner_of, point_of, facet_of, fan_of, facets_of, facet_count, facet_bytes, file_of, file_length}
 use Rattle.rules.specs.Stl.{facets_read, count_in, right_length, zero_due, wrong_at, first_wrong, facet_in, facets_in, after_zeros, reading}
 use Rattle.rules.specs.Stl.{IsFacet, no_facet, AreFacets, ReadsBack, MeshReadsBack, FileIsLong, CountFits}
@@ -103,7 +102,7 @@ module _ (fs : List (List ℕ)) (all : AreFacets fs) where
   unfolding wrong_at
   none_wrong i a = by_test (zero_due i) (λ (e : zero_due i ≡ true). rw (e, due_zero i a e) refl) (λ (e : zero_due i ≡ false). rw e refl)
 
-  zeros_read : first_wrong (file_of fs) ≡ Nothing
+  zeros_read : first_wrong (file_of fs) ≡ None
   unfolding first_wrong
   zeros_read = first_no (wrong_at (file_of fs)) (length (file_of fs)) none_wrong
 

@@ -1,7 +1,7 @@
 -- Request 11, what `rules` states in its file `StlCall`: 71 is given exactly when the file needs more bytes than are lent, and what was written reads back.
 -- Assumes nothing.
 -- Key: `short_exactly`, `written_reads_back`; `sound_reply`, `broken_reply`: the reply by what 40 to 42 say, for code that goes on behind them.
-use Rattle.std.specs.Prelude.{◌≡◌, cond, ℕ, ◌≤◌, ◌<◌}
+use Rattle.std.specs.Prelude.{◌≡◌, cond, ℕ, ◌≤◌, ◌<◌, Result, Ok, Err, ⊤}
 use Rattle.std.proofs.Math.Path.{refl}
 use Rattle.std.proofs.Common.{sym, ap, ◌∙◌, arith, le-leb}
 use Rattle.std.proofs.Math.Logic.{⊎_elim}
@@ -15,8 +15,6 @@ use Rattle.rules.specs.Handed.{Handed, polygon_count, buffers_of, mesh_in, sound
 use Rattle.rules.specs.Stl.{Scale, is_scale, size_of, height_of, file_length}
 use Rattle.rules.specs.StlCall.{mesh_facets, mesh_count, mesh_file, room_reply, stl_reply, ShortExactly, WrittenReadsBack}
 use Rattle.rules.specs.declared.Fault.{Fault}
-use Rattle.rules.specs.declared.Soundness.{Soundness}
-use Rattle.rules.specs.declared.Soundness.TheVariants.{Sound, Broken}
 use Rattle.rules.specs.declared.StlReply.TheVariants.{Written, BadMesh, BadScale, ShortFile}
 use Rattle.laws.proofs.Handed.{sound_exactly}
 use Rattle.laws.proofs.HandedWords.{corners_few}
@@ -25,11 +23,11 @@ use Rattle.laws.proofs.Stl.{file_is_long, mesh_reads_back, count_fits}
 -- ---- the reply, by what 40 to 42 say
 
 module _ (m : Handed) (s : Scale) (room : ℕ) where
-  pub sound_reply : soundness m ≡ Sound → stl_reply m s room ≡ cond (is_scale s) (room_reply (mesh_count m) room) BadScale
+  pub sound_reply : soundness m ≡ (Ok tt) → stl_reply m s room ≡ cond (is_scale s) (room_reply (mesh_count m) room) BadScale
   unfolding stl_reply
   sound_reply e = rw (e, stl_reply) refl
 
-  pub broken_reply : (f : Fault) → soundness m ≡ Broken f → stl_reply m s room ≡ BadMesh f
+  pub broken_reply : (f : Fault) → soundness m ≡ Err f → stl_reply m s room ≡ BadMesh f
   unfolding stl_reply
   broken_reply f e = rw (e, stl_reply) refl
 
@@ -63,12 +61,12 @@ short_exactly m s room sound scale =
 
 -- ---- what was written reads back
 
-pub written_sound : (m : Handed) (s : Scale) (room n : ℕ) → stl_reply m s room ≡ Written n → soundness m ≡ Sound
+pub written_sound : (m : Handed) (s : Scale) (room n : ℕ) → stl_reply m s room ≡ Written n → soundness m ≡ (Ok tt)
 written_sound m s room n e = go (soundness m) refl
   where
-    go : (t : Soundness) → soundness m ≡ t → soundness m ≡ Sound
-    go Sound q = q
-    go (Broken f) q = let w = sym (broken_reply m s room f q) ∙ e in let z : ◌≡◌ {A = ℕ} 0 1 = cc in absurd (omega arith)
+    go : (t : Result ⊤ Fault) → soundness m ≡ t → soundness m ≡ (Ok tt)
+    go (Ok _) q = q
+    go (Err f) q = let w = sym (broken_reply m s room f q) ∙ e in let z : ◌≡◌ {A = ℕ} 0 1 = cc in absurd (omega arith)
 
 module _ (m : Handed) (c : Consistent m) where
   polygons_few : length (mesh_in m).polygons ≤ 65535

@@ -1,12 +1,11 @@
 -- Tests on all numbers from a up to n, on any of them, and the first number at fault. Assumes nothing.
 -- Key: `all_of_lem`, `all_true`; `any_of_lem`, `any_true`; `no_fault`, `fault_none`.
-use Rattle.std.specs.Prelude.{ℕ, zero, suc, ◌+◌, ◌-◌, ◌≤◌, ◌<◌, ◌≡◌, refl, Bool, true, false, not, ◌&&◌, ◌||◌}
+use Rattle.std.specs.Prelude.{ℕ, zero, suc, ◌+◌, ◌-◌, ◌≤◌, ◌<◌, ◌≡◌, refl, Bool, true, false, not, ◌&&◌, ◌||◌, None}
 use Rattle.std.proofs.Common.{arith, ap, ⊎_elim}
 use Rattle.std.proofs.lemmas.Bool.{not-false}
 use Rattle.ints.specs.Bools.{and_left, and_right}
 use Rattle.mem.specs.Cases.{lt_or_le}
 use Rattle.mem.specs.Loops.{run, over, over_ind}
-use Rattle.rules.specs.declared.Found.TheVariants.{Nothing}
 use Rattle.rules.specs.Handed.{all_of, any_of, first_fault}
 use Rattle.laws.proofs.Lowest.{first_none, first_no}
 use Rattle.laws.specs.Tests.{One}
@@ -67,10 +66,10 @@ any_true test n e = let o = run_one test (n - 0) 0 e in record { k = o.k; below 
 
 -- ---- nothing is at fault
 
-pub no_fault : (good : ℕ → Bool) (n : ℕ) → ((i : ℕ) → i < n → good i ≡ true) → first_fault good n ≡ Nothing
+pub no_fault : (good : ℕ → Bool) (n : ℕ) → ((i : ℕ) → i < n → good i ≡ true) → first_fault good n ≡ None
 unfolding first_fault
 no_fault good n h = first_no (λ k. not (good k)) n (λ k l. ap not (h k l))
 
-pub fault_none : (good : ℕ → Bool) (n : ℕ) → first_fault good n ≡ Nothing → (i : ℕ) → i < n → good i ≡ true
+pub fault_none : (good : ℕ → Bool) (n : ℕ) → first_fault good n ≡ None → (i : ℕ) → i < n → good i ≡ true
 unfolding first_fault
 fault_none good n e i h = not-false (good i) (first_none (λ k. not (good k)) n e i h)

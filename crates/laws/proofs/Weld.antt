@@ -4,7 +4,7 @@
 use Prim.Native.Nat.{ℕ, zero, suc, ◌+◌, ◌<◌}
 use native.Mathlib.Omega.{arith}
 use Rattle.std.proofs.Common.{add-one, sym, ◌∙◌, ap, ap₂, ⊎_elim, append_assoc, append-nil, eqb-true, eq-eqb, ne_eqb, below_more, length-append, length-set}
-use Rattle.std.specs.Prelude.{◌≡◌, Bool, cond, ◌&&◌, ◌⊎◌, List, [], ◌∷◌, ◌++◌, eqb, leb, length, get_or, set}
+use Rattle.std.specs.Prelude.{◌≡◌, Bool, cond, ◌&&◌, ◌⊎◌, List, [], ◌∷◌, ◌++◌, eqb, leb, length, get_or, set, Option, Some, None}
 use Rattle.std.proofs.Math.Path.{refl}
 use Rattle.std.proofs.Math.Bool.{true, false}
 use Rattle.std.proofs.Math.Logic.{inl, inr}
@@ -14,8 +14,6 @@ use Rattle.ints.specs.Bools.{and_left, and_right}
 use Rattle.mem.specs.Loops.{each_at}
 use Rattle.mem.specs.Packed.{every_at, every_of, every_append}
 use Rattle.rules.specs.declared.Vertex.{Vertex}
-use Rattle.rules.specs.declared.Found.{Found}
-use Rattle.rules.specs.declared.Found.TheVariants.{At, Nothing}
 use Rattle.rules.specs.Plane.{on_plane, InGrid}
 use Rattle.rules.specs.Lists.{when, or_else, down, apart}
 use Rattle.rules.specs.Weld.{no_vertex, is_same, highest_below, number_or, number_of, Welded, flagged, add_vertex, weld_one, weld_all}
@@ -34,15 +32,15 @@ same_place height w v e =
     (eqb-true w.z v.z (and_right (leb (apart w.y v.y) height) (eqb w.z v.z) r))
 
 module _ (height : ℕ) (vs : List Vertex) (v : Vertex) where
-  Fits : ℕ → Found → Type 0
-  Fits n (At k) = (k < n) × (is_same height (get_or vs k no_vertex) v ≡ true)
-  Fits n Nothing = Unit
+  Fits : ℕ → Option ℕ → Type 0
+  Fits n (Some k) = (k < n) × (is_same height (get_or vs k no_vertex) v ≡ true)
+  Fits n None = Unit
 
-  fits_or : (k : ℕ) (b : Bool) (r : Found) → is_same height (get_or vs k no_vertex) v ≡ b → Fits k r → Fits (suc k) (or_else (when b k) r)
+  fits_or : (k : ℕ) (b : Bool) (r : Option ℕ) → is_same height (get_or vs k no_vertex) v ≡ b → Fits k r → Fits (suc k) (or_else (when b k) r)
   unfolding Fits or_else when
   fits_or k true r e h = (omega arith, e)
-  fits_or k false (At j) e h = (omega (arith, h.0), h.1)
-  fits_or k false Nothing e h = tt
+  fits_or k false (Some j) e h = (omega (arith, h.0), h.1)
+  fits_or k false None e h = tt
 
   fits : (n : ℕ) → Fits n (highest_below height vs v n)
   unfolding Fits highest_below down
@@ -50,14 +48,14 @@ module _ (height : ℕ) (vs : List Vertex) (v : Vertex) where
   fits (suc n) = fits_or n (is_same height (get_or vs n no_vertex) v) (highest_below height vs v n) refl (fits n)
 
   -- what is found is below n
-  pub found_below : (n k : ℕ) → At k ≡ highest_below height vs v n → k < n
+  pub found_below : (n k : ℕ) → Some k ≡ highest_below height vs v n → k < n
   unfolding Fits
   found_below n k e = (rw (← e) at (fits n)).0
 
-  number_from : (r : Found) → Fits (length vs) r → Took vs (number_or (length vs) r) v ⊎ (number_or (length vs) r ≡ length vs)
+  number_from : (r : Option ℕ) → Fits (length vs) r → Took vs (number_or (length vs) r) v ⊎ (number_or (length vs) r ≡ length vs)
   unfolding Fits number_or place_of
-  number_from (At k) h = inl (record { below = h.0; place = same_place height (get_or vs k no_vertex) v h.1 })
-  number_from Nothing h = inr refl
+  number_from (Some k) h = inl (record { below = h.0; place = same_place height (get_or vs k no_vertex) v h.1 })
+  number_from None h = inr refl
 
   -- the number is that of a vertex at v's place, or new
   pub number_cases : Took vs (number_of height vs v) v ⊎ (number_of height vs v ≡ length vs)

@@ -5,7 +5,7 @@ use Rattle.rules.specs.Merge.{no_pair}
 use Rattle.rules.specs.declared.Pair.{Pair}
 
 -- the first of the longest of f i, f (i + 1), .. up to f (n - 1), where one is longer than 0
-pub record None (f : ℕ → Pair) (i n : ℕ) (m : Pair) : Type 0 where
+pub record Never (f : ℕ → Pair) (i n : ℕ) (m : Pair) : Type 0 where
   pub is : m ≡ no_pair
   pub all : (j : ℕ) → i ≤ j → j < n → (f j).length ≡ 0
 
@@ -19,7 +19,7 @@ pub record First (f : ℕ → Pair) (i n : ℕ) (m : Pair) : Type 0 where
   pub most : (j : ℕ) → i ≤ j → j < n → (f j).length ≤ m.length
 
 abbrev pub Best : (ℕ → Pair) → ℕ → ℕ → Pair → Type 0
-Best f i n m = None f i n m ⊎ First f i n m
+Best f i n m = Never f i n m ⊎ First f i n m
 
 -- the length of a pair
 abbrev pub size : Pair → ℕ

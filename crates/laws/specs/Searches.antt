@@ -1,14 +1,12 @@
 -- A search for the highest number that fits, along a chain on which all that fit have one key. Definitions only.
-use Rattle.std.specs.Prelude.{◌≡◌, Bool}
+use Rattle.std.specs.Prelude.{◌≡◌, Bool, Option, None}
 use Prim.Native.Nat.{ℕ, ◌≤◌}
 use Rattle.mem.specs.Chain.{highest}
 use Rattle.rules.specs.Lists.{when, or_else, down}
-use Rattle.rules.specs.declared.Found.{Found}
-use Rattle.rules.specs.declared.Found.TheVariants.{Nothing}
 
 -- the highest number below n that fits
-abbrev pub found : (ℕ → Bool) → ℕ → Found
-found test n = down Nothing or_else (λ k. when (test k) k) n
+abbrev pub found : (ℕ → Bool) → ℕ → Option ℕ
+found test n = down None or_else (λ k. when (test k) k) n
 
 -- `link` is the word of the next number to look at: the highest one with the key b below m
 pub record Walk (test : ℕ → Bool) (key : ℕ → ℕ) (b n link : ℕ) : Type 0 where

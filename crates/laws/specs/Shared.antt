@@ -1,9 +1,8 @@
 -- R4's shared side: sides of two lists of corners. Definitions only.
+use Rattle.std.specs.Prelude.{Option, Some, None}
 use Prim.Native.Nat.{ℕ, ◌<◌}
-use Rattle.rules.specs.declared.Shared.{Shared}
-use Rattle.rules.specs.declared.Shared.TheVariants.{Sides, NoSide}
 
 -- sides of lists of so many corners
-unfoldable pub SidesIn : ℕ → ℕ → Shared → Type 0
-SidesIn la lb (Sides i j) = (i < la) × (j < lb)
-SidesIn la lb NoSide = Unit
+unfoldable pub SidesIn : ℕ → ℕ → Option (ℕ × ℕ) → Type 0
+SidesIn la lb (Some (i, j)) = (i < la) × (j < lb)
+SidesIn la lb None = Unit

@@ -1,5 +1,6 @@
 -- The loop over the digits of a cell: the answer of the whole is that of the digits that are left, v being what the others say. A number that has grown above
 -- its limit stays above. Assumes nothing.
+use Rattle.std.specs.Prelude.{Option, Some, None}
 use mathlib.Core.Path.{◌≡◌, refl, ap, ◌∙◌}
 use mathlib.Core.Bool.{true, false, ◌&&◌, not, cond, and-true, and-false, or-true}
 use mathlib.Core.List.{List, [], ◌∷◌}
@@ -10,13 +11,11 @@ use lib.Dec.{eqb, leb}
 use lib.ListN.{length, drop, get_or, drop_of_length-le}
 use borrow.Author.Tests.{eq-eqb, ne_eqb, le-leb, lt-leb}
 use Rattle.rules.specs.Lines.{is_empty, is_digit, are_digits, is_decimal, value_from, decimal_in}
-use Rattle.rules.specs.declared.Decimal.{Decimal}
-use Rattle.rules.specs.declared.Decimal.TheVariants.{Value, Malformed}
 use Rattle.lines.proofs.Scanning.{drop_next}
 
 -- the number of a cell, if the digits ds are left of it and v is what those before them say
-unfoldable pub rest_in : ℕ → ℕ → ℕ → List ℕ → Decimal
-rest_in least most v ds = cond (are_digits ds && (leb least (value_from v ds) && leb (value_from v ds) most)) (Value (value_from v ds)) Malformed
+unfoldable pub rest_in : ℕ → ℕ → ℕ → List ℕ → Option ℕ
+rest_in least most v ds = cond (are_digits ds && (leb least (value_from v ds) && leb (value_from v ds) most)) (Some (value_from v ds)) None
 
 value_most : (v : ℕ) (ds : List ℕ) → v ≤ value_from v ds
 unfolding value_from
@@ -24,11 +23,11 @@ value_most v [] = omega arith
 value_most v (c ∷ cs) = omega (arith, value_most (v * 10 + (c - 48)) cs)
 
 module _ (least most v : ℕ) where
-  rest_large : (ds : List ℕ) → most < v → rest_in least most v ds ≡ Malformed
+  rest_large : (ds : List ℕ) → most < v → rest_in least most v ds ≡ None
   unfolding rest_in
   rest_large ds h = rw (lt-leb (value_from v ds) most (omega (arith, value_most v ds)), and-false, and-false) refl
 
-  rest_other : (c : ℕ) (cs : List ℕ) → is_digit c ≡ false → rest_in least most v (c ∷ cs) ≡ Malformed
+  rest_other : (c : ℕ) (cs : List ℕ) → is_digit c ≡ false → rest_in least most v (c ∷ cs) ≡ None
   unfolding rest_in are_digits
   rest_other c cs e = rw (e, are_digits) refl
 
@@ -53,12 +52,12 @@ pub record Reading (least most : ℕ) (cell : List ℕ) (v i : ℕ) : Type 0 whe
   pub small : v ≤ most
 
 module _ (least most : ℕ) where
-  pub no_digits : (cell : List ℕ) → length cell ≡ 0 → decimal_in least most cell ≡ Malformed
+  pub no_digits : (cell : List ℕ) → length cell ≡ 0 → decimal_in least most cell ≡ None
   unfolding decimal_in is_decimal
   no_digits [] h = refl
   no_digits (c ∷ cs) h = absurd (omega arith)
 
-  pub leading_zero : (cell : List ℕ) → get_or cell 0 0 ≡ 48 → 1 < length cell → decimal_in least most cell ≡ Malformed
+  pub leading_zero : (cell : List ℕ) → get_or cell 0 0 ≡ 48 → 1 < length cell → decimal_in least most cell ≡ None
   unfolding decimal_in is_decimal is_empty
   leading_zero [] e h = absurd (omega arith)
   leading_zero (c ∷ []) e h = absurd (omega arith)
@@ -78,14 +77,14 @@ module _ (least most : ℕ) where
 
 module _ {least most : ℕ} {cell : List ℕ} {v i : ℕ} (r : Reading least most cell v i) where
   module _ (h : i < length cell) where
-    pub reading_other : is_digit (get_or cell i 0) ≡ false → decimal_in least most cell ≡ Malformed
+    pub reading_other : is_digit (get_or cell i 0) ≡ false → decimal_in least most cell ≡ None
     reading_other e = r.same ∙ ap (rest_in least most v) (drop_next cell i h) ∙ rest_other least most v (get_or cell i 0) (drop (i + 1) cell) e
 
     module _ (a : 48 ≤ get_or cell i 0) (b : get_or cell i 0 ≤ 57) where
       turn : decimal_in least most cell ≡ rest_in least most (v * 10 + (get_or cell i 0 - 48)) (drop (i + 1) cell)
       turn = r.same ∙ ap (rest_in least most v) (drop_next cell i h) ∙ rest_digit least most v (get_or cell i 0) (drop (i + 1) cell) (is_digit_lem (get_or cell i 0) a b)
 
-      pub reading_large : most < v * 10 + (get_or cell i 0 - 48) → decimal_in least most cell ≡ Malformed
+      pub reading_large : most < v * 10 + (get_or cell i 0 - 48) → decimal_in least most cell ≡ None
       reading_large k = turn ∙ rest_large least most (v * 10 + (get_or cell i 0 - 48)) (drop (i + 1) cell) k
 
       pub reading_next : v * 10 + (get_or cell i 0 - 48) ≤ most → Reading least most cell (v * 10 + (get_or cell i 0 - 48)) (i + 1)
@@ -95,10 +94,10 @@ module _ {least most : ℕ} {cell : List ℕ} {v i : ℕ} (r : Reading least mos
     done : decimal_in least most cell ≡ rest_in least most v []
     done = r.same ∙ ap (rest_in least most v) (drop_of_length-le cell {i = i} h)
 
-    pub reading_below : v < least → decimal_in least most cell ≡ Malformed
+    pub reading_below : v < least → decimal_in least most cell ≡ None
     unfolding rest_in are_digits value_from
     reading_below k = done ∙ rw (lt-leb least v k) refl
 
-    pub reading_value : least ≤ v → decimal_in least most cell ≡ Value v
+    pub reading_value : least ≤ v → decimal_in least most cell ≡ Some v
     unfolding rest_in are_digits value_from
     reading_value k = done ∙ rw (le-leb least v k, le-leb v most r.small) refl

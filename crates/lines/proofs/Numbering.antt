@@ -1,5 +1,6 @@
 -- The loop over the cells of a line: the numbers of the whole are those so far, and then those of the cells that are left; the numbers so far stand at the
 -- beginning of the words. Assumes nothing.
+use Rattle.std.specs.Prelude.{Option, Some, None}
 use mathlib.Core.Path.{◌≡◌, refl, sym, ap, ◌∙◌}
 use mathlib.Core.Bool.{Bool, true, false}
 use mathlib.Core.List.{List, [], ◌∷◌, ◌++◌, append-nil}
@@ -14,8 +15,6 @@ use borrow.Author.Tests.{eqb-true, eqb-false}
 use Rattle.mem.specs.Slice.{view, splice, splice_nil, splice_eq, write_step}
 use Rattle.mem.specs.Zeros.{with_zeros, drop_replicate, zeros_at}
 use Rattle.rules.specs.Lines.{tab_byte, is_same_text, parts, Line, decimal_in, Numbers, numbers, malformed, with_number, numbers_in, numbers_of}
-use Rattle.rules.specs.declared.Decimal.{Decimal}
-use Rattle.rules.specs.declared.Decimal.TheVariants.{Value, Malformed}
 use Rattle.lines.specs.Scan.{place_of, parts_some}
 use Rattle.lines.specs.Read.{are_numbers, good_in, good_of, RowRead, four_of}
 use Rattle.lines.specs.Taken.{row_good}
@@ -44,19 +43,19 @@ with_snoc (m ∷ ns) n r = ap (with_number m) (with_snoc ns n r)
 
 -- ---- one more cell
 module _ (least m : ℕ) (ms c : List ℕ) (cs : Line) where
-  in_bad : decimal_in least m c ≡ Malformed → numbers_in least (m ∷ ms) (c ∷ cs) ≡ malformed
+  in_bad : decimal_in least m c ≡ None → numbers_in least (m ∷ ms) (c ∷ cs) ≡ malformed
   unfolding numbers_in
   in_bad e = rw (e, numbers_in) refl
 
-  in_value : {n : ℕ} → decimal_in least m c ≡ Value n → numbers_in least (m ∷ ms) (c ∷ cs) ≡ with_number n (numbers_in least ms cs)
+  in_value : {n : ℕ} → decimal_in least m c ≡ Some n → numbers_in least (m ∷ ms) (c ∷ cs) ≡ with_number n (numbers_in least ms cs)
   unfolding numbers_in
   in_value e = rw (e, numbers_in) refl
 
-  found_bad : decimal_in least m c ≡ Malformed → good_in least (m ∷ ms) (c ∷ cs) ≡ []
+  found_bad : decimal_in least m c ≡ None → good_in least (m ∷ ms) (c ∷ cs) ≡ []
   unfolding good_in
   found_bad e = rw (e, good_in) refl
 
-  found_value : {n : ℕ} → decimal_in least m c ≡ Value n → good_in least (m ∷ ms) (c ∷ cs) ≡ n ∷ good_in least ms cs
+  found_value : {n : ℕ} → decimal_in least m c ≡ Some n → good_in least (m ∷ ms) (c ∷ cs) ≡ n ∷ good_in least ms cs
   unfolding good_in
   found_value e = rw (e, good_in) refl
 
@@ -122,12 +121,12 @@ module _ {line name : List ℕ} {least : ℕ} {mosts v values : List ℕ} {at i 
       left : cells_from line at ≡ view line (at + 1) (to - (at + 1)) ∷ cells_from line to
       left = cells_more line at more ∙ first_cell line (at + 1) to (omega arith) e
 
-      pub numbering_bad : {d : Decimal} → d ≡ decimal_in least (get_or mosts i 0) (view line (at + 1) (to - (at + 1))) → d ≡ Malformed
+      pub numbering_bad : {d : Option ℕ} → d ≡ decimal_in least (get_or mosts i 0) (view line (at + 1) (to - (at + 1))) → d ≡ None
           → RowRead name least mosts (parts tab_byte line) false v values
       numbering_bad q f =
           ended (rw (drop_next mosts i h, left) (in_bad least _ _ _ _ (sym q ∙ f))) (rw (drop_next mosts i h, left) (found_bad least _ _ _ _ (sym q ∙ f)))
 
-      pub numbering_next : {d : Decimal} {n : ℕ} → d ≡ decimal_in least (get_or mosts i 0) (view line (at + 1) (to - (at + 1))) → d ≡ Value n
+      pub numbering_next : {d : Option ℕ} {n : ℕ} → d ≡ decimal_in least (get_or mosts i 0) (view line (at + 1) (to - (at + 1))) → d ≡ Some n
           → to ≤ length line → Numbering line name least mosts v (set values i n) to (i + 1)
       numbering_next {d} {n} q f k = record {
         ns = s.ns ++ (n ∷ []);

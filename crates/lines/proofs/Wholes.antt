@@ -1,4 +1,5 @@
 -- A cell as a whole number: `-` and a decimal, or a decimal alone. The number fits 64 bits with its sign, and so the bits say it. Assumes nothing.
+use Rattle.std.specs.Prelude.{Option, Some, None}
 use mathlib.Core.Path.{◌≡◌, refl, sym, ap, ◌∙◌, subst}
 use mathlib.Core.List.{List, [], ◌∷◌}
 use mathlib.Core.Logic.{◌≢◌}
@@ -14,9 +15,6 @@ use mir.Facts.{to_z-of_z}
 use Rattle.ints.specs.Machine.{reads_nat}
 use Rattle.mem.specs.Slice.{view}
 use Rattle.rules.specs.Lines.{is_decimal, decimal_in, whole_from, signed_in}
-use Rattle.rules.specs.declared.Decimal.{Decimal}
-use Rattle.rules.specs.declared.Decimal.TheVariants.{Value, Malformed}
-use Rattle.rules.specs.declared.Signed.TheVariants.{Whole, NotWhole}
 use Rattle.lines.specs.Taken.{value_in}
 use Rattle.lines.proofs.Signs.{neg_fits}
 
@@ -43,7 +41,7 @@ module _ (most : ℕ) where
   without (c ∷ cs) h = plain_cons c cs (h (omega arith))
 
 -- ---- what its decimal makes of it
-pub value_fits : (least most : ℕ) {n : ℕ} (cell : List ℕ) → most ≤ 9223372036854775807 → {d : Decimal} → d ≡ decimal_in least most cell → d ≡ Value n
+pub value_fits : (least most : ℕ) {n : ℕ} (cell : List ℕ) → most ≤ 9223372036854775807 → {d : Option ℕ} → d ≡ decimal_in least most cell → d ≡ Some n
     → SFits w64 (pos n)
 value_fits least most {n} cell h e q = record { sfits = omega (arith, value_in least most n cell (sym e ∙ q)) }
 
@@ -58,22 +56,22 @@ turned_fits {n} f = subst (SFits w64) (sym (turned f)) (neg_fits n f)
 
 module _ (most : ℕ) (cell : List ℕ) where
   -- behind `-`
-  module _ (h : 0 < length cell) (e : get_or cell 0 0 ≡ 45) {d : Decimal} (q : d ≡ decimal_in 1 most (view cell 1 (length cell - 1))) where
-    pub minus_bad : d ≡ Malformed → NotWhole ≡ signed_in most cell
+  module _ (h : 0 < length cell) (e : get_or cell 0 0 ≡ 45) {d : Option ℕ} (q : d ≡ decimal_in 1 most (view cell 1 (length cell - 1))) where
+    pub minus_bad : d ≡ None → None ≡ signed_in most cell
     unfolding whole_from
     minus_bad x = sym (with_minus most cell h e ∙ ap (whole_from (λ n. neg_ℤ (pos n))) (sym q ∙ x))
 
-    pub minus_value : {n : ℕ} → d ≡ Value n → SFits w64 (pos n) → Whole (to_z w64 (of_z w64 (pos 0 -ℤ to_z w64 n))) ≡ signed_in most cell
+    pub minus_value : {n : ℕ} → d ≡ Some n → SFits w64 (pos n) → Some (to_z w64 (of_z w64 (pos 0 -ℤ to_z w64 n))) ≡ signed_in most cell
     unfolding whole_from
     minus_value x f =
-        ap Whole (to_z-of_z (turned_fits f) ∙ turned f) ∙ sym (with_minus most cell h e ∙ ap (whole_from (λ n. neg_ℤ (pos n))) (sym q ∙ x))
+        ap Some (to_z-of_z (turned_fits f) ∙ turned f) ∙ sym (with_minus most cell h e ∙ ap (whole_from (λ n. neg_ℤ (pos n))) (sym q ∙ x))
 
   -- alone
-  module _ (h : 0 < length cell → get_or cell 0 0 ≢ 45) {d : Decimal} (q : d ≡ decimal_in 0 most cell) where
-    pub plain_bad : d ≡ Malformed → NotWhole ≡ signed_in most cell
+  module _ (h : 0 < length cell → get_or cell 0 0 ≢ 45) {d : Option ℕ} (q : d ≡ decimal_in 0 most cell) where
+    pub plain_bad : d ≡ None → None ≡ signed_in most cell
     unfolding whole_from
     plain_bad x = sym (without most cell h ∙ ap (whole_from pos) (sym q ∙ x))
 
-    pub plain_value : {n : ℕ} → d ≡ Value n → SFits w64 (pos n) → Whole (to_z w64 n) ≡ signed_in most cell
+    pub plain_value : {n : ℕ} → d ≡ Some n → SFits w64 (pos n) → Some (to_z w64 n) ≡ signed_in most cell
     unfolding whole_from
-    plain_value x f = ap Whole (said f) ∙ sym (without most cell h ∙ ap (whole_from pos) (sym q ∙ x))
+    plain_value x f = ap Some (said f) ∙ sym (without most cell h ∙ ap (whole_from pos) (sym q ∙ x))

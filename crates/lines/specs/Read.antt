@@ -1,8 +1,7 @@
 -- What the readers of lines answer, case by case. Definitions only.
-use Rattle.std.specs.Prelude.{◌≡◌, Bool, true, false, List, [], ◌∷◌, ◌++◌, ℕ, ◌+◌, ◌-◌, ◌≤◌, ◌<◌, length, take, drop, get_or}
+use Rattle.std.specs.Prelude.{◌≡◌, Bool, true, false, List, [], ◌∷◌, ◌++◌, ℕ, ◌+◌, ◌-◌, ◌≤◌, ◌<◌, length, take, drop, get_or, Some, None}
 use Rattle.mem.specs.Slice.{splice}
 use Rattle.rules.specs.Lines.{tab_byte, lf, is_same_text, parts, Line, lines_of, decimal_in, Numbers, numbers, malformed, numbers_of}
-use Rattle.rules.specs.declared.Decimal.TheVariants.{Value, Malformed}
 use Rattle.lines.specs.declared.numbers.Four.{Four}
 use Rattle.lines.specs.declared.line.LineRead.{LineRead}
 use Rattle.lines.specs.Scan.{place_of}
@@ -19,8 +18,8 @@ unfoldable pub good_in : ℕ → List ℕ → Line → List ℕ
 good_in least [] cs = []
 good_in least (m ∷ ms) [] = []
 good_in least (m ∷ ms) (c ∷ cs) = elim (decimal_in least m c) [
-  | Value n ↦ n ∷ good_in least ms cs
-  | Malformed ↦ []
+  | Some n ↦ n ∷ good_in least ms cs
+  | None ↦ []
 ]
 
 -- the same of a line, whose first cell has to be this name

@@ -2,7 +2,7 @@
 -- Key: `line_at_lem`, `line_open`, `line_missing`: the line at a place; `taken`: a line with numbers is the first of the lines from its place on; `numbers_long`,
 -- `numbers_most`: its numbers keep their limits; `row_good`, `row_bad`: all of it, from the answer of `read_row`; `good_read`, `bad_read`: from that of
 -- `read_line`.
-use Rattle.std.specs.Prelude.{◌≡◌, Bool, true, false, ◌&&◌, cond, ℕ, zero, suc, ◌+◌, ◌≤◌, ◌<◌, leb, length, drop, get_or}
+use Rattle.std.specs.Prelude.{◌≡◌, Bool, true, false, ◌&&◌, cond, ℕ, zero, suc, ◌+◌, ◌≤◌, ◌<◌, leb, length, drop, get_or, Option, Some, None}
 use Rattle.std.proofs.Math.Path.{refl, ap}
 use Rattle.std.proofs.Common.{sym, ◌∙◌, true≢false, ⊎_elim, arith, drop_of_length-le, leb-true}
 use mathlib.Core.List.{List, [], ◌∷◌}
@@ -11,8 +11,6 @@ use Rattle.ints.specs.Bools.{and_left, and_right}
 use Rattle.mem.specs.Slice.{view, splice}
 use Rattle.mem.specs.Cases.{lt_or_le}
 use Rattle.rules.specs.Lines.{tab_byte, lf, is_empty, is_same_text, parts, Line, whole_lines, lines_of, is_decimal, value_from, decimal_in, Numbers, numbers, malformed, with_number, numbers_in, numbers_of}
-use Rattle.rules.specs.declared.Decimal.{Decimal}
-use Rattle.rules.specs.declared.Decimal.TheVariants.{Value, Malformed}
 use Rattle.lines.specs.declared.line.LineRead.{LineRead}
 use Rattle.lines.specs.Scan.{place_of, part_next, part_last, parts_some}
 use Rattle.lines.specs.Read.{are_numbers, good_in, good_of, RowRead, line_end, line_read, numbers_at}
@@ -101,11 +99,11 @@ pub record Limited (least : ℕ) (mosts ns : List ℕ) : Type 0 where
   pub long : length ns ≡ length mosts
   pub most : (i : ℕ) → i < length mosts → (least ≤ get_or ns i 0) × (get_or ns i 0 ≤ get_or mosts i 0)
 
-pub value_in : (least most n : ℕ) (cell : List ℕ) → decimal_in least most cell ≡ Value n → (least ≤ n) × (n ≤ most)
+pub value_in : (least most n : ℕ) (cell : List ℕ) → decimal_in least most cell ≡ Some n → (least ≤ n) × (n ≤ most)
 unfolding decimal_in
 value_in least most n cell e = let v = value_from 0 cell in
     (elim (is_decimal cell && (leb least v && leb v most))
-    as (λ (t : Bool). (is_decimal cell && (leb least v && leb v most)) ≡ t → cond t (Value v) Malformed ≡ Value n → (least ≤ n) × (n ≤ most)) [
+    as (λ (t : Bool). (is_decimal cell && (leb least v && leb v most)) ≡ t → cond t (Some v) None ≡ Some n → (least ≤ n) × (n ≤ most)) [
       | true ↦ λ q f.
           let x : v ≡ n = cc in
           let y = and_right (is_decimal cell) (leb least v && leb v most) q in
@@ -132,9 +130,9 @@ unfolding numbers_in with_number
 limited_in least [] [] ns e = let q : [] ≡ ns = cc in rw (← q) record { long = refl; most = λ i h. absurd (omega arith) }
 limited_in least [] (c ∷ cs) ns e = let z : ◌≡◌ {A = ℕ} 0 1 = cc in absurd (omega arith)
 limited_in least (m ∷ ms) [] ns e = let z : ◌≡◌ {A = ℕ} 0 1 = cc in absurd (omega arith)
-limited_in least (m ∷ ms) (c ∷ cs) ns e = (elim (decimal_in least m c) as (λ (d : Decimal). decimal_in least m c ≡ d → (elim d [ Value n ↦ with_number n (numbers_in least ms cs) | Malformed ↦ malformed ]) ≡ numbers ns → Limited least (m ∷ ms) ns) [
-  | Value n ↦ λ q f. limited_next least m n ms ns (numbers_in least ms cs) (value_in least m n c q) (λ ks g. limited_in least ms cs ks g) f
-  | Malformed ↦ λ q f. let z : ◌≡◌ {A = ℕ} 0 1 = cc in absurd (omega arith)
+limited_in least (m ∷ ms) (c ∷ cs) ns e = (elim (decimal_in least m c) as (λ (d : Option ℕ). decimal_in least m c ≡ d → (elim d [ Some n ↦ with_number n (numbers_in least ms cs) | None ↦ malformed ]) ≡ numbers ns → Limited least (m ∷ ms) ns) [
+  | Some n ↦ λ q f. limited_next least m n ms ns (numbers_in least ms cs) (value_in least m n c q) (λ ks g. limited_in least ms cs ks g) f
+  | None ↦ λ q f. let z : ◌≡◌ {A = ℕ} 0 1 = cc in absurd (omega arith)
 ]) refl e
 
 pub limited : (name : List ℕ) (least : ℕ) (mosts : List ℕ) (l : Line) (ns : List ℕ) → numbers_of name least mosts l ≡ numbers ns → Limited least mosts ns
@@ -163,11 +161,11 @@ unfolding numbers_in good_in
 good_in_lem least [] [] ns e = cc
 good_in_lem least [] (c ∷ cs) ns e = let z : ◌≡◌ {A = ℕ} 0 1 = cc in absurd (omega arith)
 good_in_lem least (m ∷ ms) [] ns e = let z : ◌≡◌ {A = ℕ} 0 1 = cc in absurd (omega arith)
-good_in_lem least (m ∷ ms) (c ∷ cs) ns e = (elim (decimal_in least m c) as (λ (d : Decimal).
-    (elim d [ Value n ↦ with_number n (numbers_in least ms cs) | Malformed ↦ malformed ]) ≡ numbers ns
-    → (elim d [ Value n ↦ n ∷ good_in least ms cs | Malformed ↦ [] ]) ≡ ns) [
-      | Value n ↦ λ f. good_next n (good_in least ms cs) ns (numbers_in least ms cs) (λ ks g. good_in_lem least ms cs ks g) f
-      | Malformed ↦ λ f. let z : ◌≡◌ {A = ℕ} 0 1 = cc in absurd (omega arith)
+good_in_lem least (m ∷ ms) (c ∷ cs) ns e = (elim (decimal_in least m c) as (λ (d : Option ℕ).
+    (elim d [ Some n ↦ with_number n (numbers_in least ms cs) | None ↦ malformed ]) ≡ numbers ns
+    → (elim d [ Some n ↦ n ∷ good_in least ms cs | None ↦ [] ]) ≡ ns) [
+      | Some n ↦ λ f. good_next n (good_in least ms cs) ns (numbers_in least ms cs) (λ ks g. good_in_lem least ms cs ks g) f
+      | None ↦ λ f. let z : ◌≡◌ {A = ℕ} 0 1 = cc in absurd (omega arith)
     ]) e
 
 pub good_all : (name : List ℕ) (least : ℕ) (mosts : List ℕ) (l : Line) (ns : List ℕ) → numbers_of name least mosts l ≡ numbers ns

@@ -29,10 +29,8 @@ pub fn put_cells16(out: &mut [u8], at: usize, ns: &[u16]) -> usize
     ensures { Printed (packed cell ns.now) out.old out.new at result }
 {
     let mut to = at;
-    let mut i = 0;
-    while i < ns.len() {
+    for i in 0..ns.len() {
         to = put_cell(out, to, ns[i] as u64);
-        i += 1;
     }
     to
 }
@@ -43,10 +41,8 @@ pub fn put_cells32(out: &mut [u8], at: usize, ns: &[u32]) -> usize
     ensures { Printed (packed cell ns.now) out.old out.new at result }
 {
     let mut to = at;
-    let mut i = 0;
-    while i < ns.len() {
+    for i in 0..ns.len() {
         to = put_cell(out, to, ns[i] as u64);
-        i += 1;
     }
     to
 }

@@ -5,7 +5,6 @@ ghost use Rattle.lines.specs.Read.{most_numbers, four_of, RowRead};
 
 use crate::decimal::read_decimal;
 use crate::scan::{find, is_same_text};
-use rules::Decimal;
 
 // The numbers of a line, at most four: 0 where there is none, and everywhere if the line is malformed.
 #[derive(Clone, Copy)]
@@ -38,22 +37,20 @@ pub fn read_row(line: &[u8], name: &[u8], least: u64, mosts: &[u64], values: &mu
 {
     let mut at = find(line, 0, b'\t');
     if is_same_text(&line[..at], name) {
-        let mut i = 0;
-        while i < mosts.len() {
+        for i in 0..mosts.len() {
             if at >= line.len() {
                 return false;
             }
             let from = at + 1;
             at = find(line, from, b'\t');
             match read_decimal(&line[from..at], least, mosts[i]) {
-                Decimal::Malformed => {
+                None => {
                     return false;
                 }
-                Decimal::Value(v) => {
+                Some(v) => {
                     values[i] = v;
                 }
             }
-            i += 1;
         }
         return at == line.len();
     }

@@ -3,23 +3,22 @@ ghost use Rattle.std.specs.Prelude.{◌≡◌, ◌≤◌};
 ghost use Rattle.rules.specs.Lines.{signed_in};
 
 use crate::decimal::read_decimal;
-use rules::{Decimal, Signed};
 
 // The number that a cell says: a decimal up to `most`, or `-` and one that is not 0. `most` is an i64.
-pub fn read_signed(cell: &[u8], most: u64) -> Signed
+pub fn read_signed(cell: &[u8], most: u64) -> Option<i64>
     requires { most ≤ 9223372036854775807 }
     ensures { result ≡ signed_in most cell.now }
 {
     if cell.len() > 0 {
         if cell[0] == b'-' {
             return match read_decimal(&cell[1..], 1, most) {
-                Decimal::Malformed => Signed::NotWhole,
-                Decimal::Value(n) => Signed::Whole(-(n as i64)),
+                None => None,
+                Some(n) => Some(-(n as i64)),
             };
         }
     }
     match read_decimal(cell, 0, most) {
-        Decimal::Malformed => Signed::NotWhole,
-        Decimal::Value(n) => Signed::Whole(n as i64),
+        None => None,
+        Some(n) => Some(n as i64),
     }
 }

@@ -1,4 +1,5 @@
 -- One record in the tables: what a new one makes of the words, and what one that is joined does. Each write is the rewriting of one table. Assumes nothing.
+use Rattle.std.specs.Prelude.{Some}
 use mathlib.Core.Path.{◌≡◌, refl, sym, ap, ◌∙◌}
 use mathlib.Core.List.{List, [], ◌∷◌, ◌++◌}
 use mathlib.Core.Logic.{⊎_elim, ◌≢◌}
@@ -14,7 +15,6 @@ use Rattle.mem.specs.Cases.{eq_or_ne}
 use Rattle.mem.specs.Chain.{nexts}
 use Rattle.rules.specs.Links.{no_edge, joined_to, join_at}
 use Rattle.rules.specs.declared.Edge.{Edge}
-use Rattle.rules.specs.declared.Found.TheVariants.{At}
 use Rattle.records.specs.Layout.{edge_size, edge_words, edges_at, edge_records}
 use Rattle.records.specs.Fixed.{edge_fixed, fixed_count, fixed_append, fixed_length, fixed_one, fixed_put}
 use Rattle.links.specs.declared.edges.EdgeTables.{EdgeTables}
@@ -98,7 +98,7 @@ module _ (w : List ℕ) (t : EdgeTables) (nv ne : ℕ) (s : Edged w t nv ne) whe
         (omega (arith, s.room.edges, s.room.nexts)) k f h)
 
     pub join_steps : {g : Edge} → g ≡ joined_to i j (get_or (edges_at w t.edges ne) k no_edge) → splice w (t.edges + k * edge_size) (edge_words g)
-        ≡ edged w t nv (join_at i j (edges_at w t.edges ne) (At k))
+        ≡ edged w t nv (join_at i j (edges_at w t.edges ne) (Some k))
     unfolding edged shelved join_at es f
     join_steps {g} e =
         let a = t.edges + k * edge_size in

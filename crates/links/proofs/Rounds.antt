@@ -1,4 +1,5 @@
 -- Rounds over sides and polygons: after j of n the buffer is the one at the start with the records of R6's state after j in the tables. Assumes nothing.
+use Rattle.std.specs.Prelude.{Some, None}
 use mathlib.Core.Path.{◌≡◌, refl, sym, ap, ◌∙◌}
 use mathlib.Core.List.{List, [], ◌∷◌, ◌++◌}
 use Prim.Native.Nat.{ℕ, ◌+◌, ◌*◌, ◌≤◌, ◌<◌}
@@ -11,7 +12,6 @@ use Rattle.rules.specs.Lists.{next}
 use Rattle.rules.specs.Mesh.{Polygon, no_polygon, polygon_at, side_start, side_end}
 use Rattle.rules.specs.Links.{no_edge, each_side, record_side, newest, joined_to, join_at, join_side, edges_of}
 use Rattle.rules.specs.declared.Edge.{Edge}
-use Rattle.rules.specs.declared.Found.TheVariants.{At, Nothing}
 use Rattle.laws.proofs.Lists.{all_at}
 use Rattle.laws.proofs.Ring.{next_below}
 use Rattle.records.specs.Layout.{polygon_size, most_corners, polygons_at, edges_at}
@@ -151,8 +151,8 @@ module _ {w : List ℕ} {t : EdgeTables} {nv ne i : ℕ} {p : Poly} (c : InHand 
       rw (e, n) (all_at c.inside (next j p.n) 0 (rw n (next_below j p.n (omega (arith, on.below)))))
 
   module _ {a b : ℕ} (ea : a ≡ side_start (corners_of p) j) (eb : b ≡ side_end (corners_of p) j) where
-    pub joined : {u : List ℕ} {k : ℕ} → b < a → At k ≡ newest b a (edges_at w t.edges ne)
-        → u ≡ edged w t nv (join_at i j (edges_at w t.edges ne) (At k))
+    pub joined : {u : List ℕ} {k : ℕ} → b < a → Some k ≡ newest b a (edges_at w t.edges ne)
+        → u ≡ edged w t nv (join_at i j (edges_at w t.edges ne) (Some k))
         → Rewritten w u t nv ne (join_of (corners_of p) i j (edges_at w t.edges ne)) 0 ne
     unfolding join_of join_at es
     joined {u} {k} h f e = rw (← ea, ← eb, lt-ltb b a h, ← f) (record {
@@ -162,11 +162,11 @@ module _ {w : List ℕ} {t : EdgeTables} {nv ne i : ℕ} {p : Poly} (c : InHand 
       most = omega arith;
     })
 
-    pub found_in : {k : ℕ} → At k ≡ newest b a (edges_at w t.edges ne) → k < ne
+    pub found_in : {k : ℕ} → Some k ≡ newest b a (edges_at w t.edges ne) → k < ne
     unfolding es
     found_in {k} f = rw many at (newest_in b a es k f)
 
-    pub unjoined : b < a → Nothing ≡ newest b a (edges_at w t.edges ne) → Rewritten w w t nv ne (join_of (corners_of p) i j (edges_at w t.edges ne)) 0 ne
+    pub unjoined : b < a → None ≡ newest b a (edges_at w t.edges ne) → Rewritten w w t nv ne (join_of (corners_of p) i j (edges_at w t.edges ne)) 0 ne
     unfolding join_of join_at es
     unjoined h f = rw (← ea, ← eb, lt-ltb b a h, ← f) (record { is = c.now.is; count = sym many; least = omega arith; most = omega arith })
 

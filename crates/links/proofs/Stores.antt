@@ -1,5 +1,6 @@
 -- The links: each record names sides that there are, so that both of its links stand in the words; a word written is a link set; and all of them written are
 -- R6's links. Assumes nothing.
+use Rattle.std.specs.Prelude.{Option, Some, None}
 use mathlib.Core.Path.{◌≡◌, refl, sym, ap, ◌∙◌}
 use mathlib.Core.Bool.{Bool, true, false, cond}
 use mathlib.Core.List.{List, [], ◌∷◌}
@@ -21,8 +22,6 @@ use Rattle.rules.specs.Mesh.{Polygon, no_polygon, polygon_at, side_start, side_e
 use Rattle.rules.specs.Links.{none, no_edge, each_side, record_side, newest, joined_to, join_at, join_side, edges_of, set_link, store_edge, no_links, links_of}
 use Rattle.rules.specs.Exits.{padded}
 use Rattle.rules.specs.declared.Edge.{Edge}
-use Rattle.rules.specs.declared.Found.{Found}
-use Rattle.rules.specs.declared.Found.TheVariants.{At, Nothing}
 use Rattle.laws.specs.Lists.{All}
 use Rattle.laws.proofs.Lists.{all_at, all_of_lem, all_append}
 use Rattle.laws.specs.Links.{Shaped}
@@ -67,12 +66,12 @@ module _ (ps : List Polygon) where
       ⊎_elim (λ (d : n ≡ k). rw (d, get_or-set_same es k e no_edge (omega arith)) (f (omega arith)))
       (λ (d : n ≢ k). rw (get_or-set_other es k n e no_edge d) (all_at q n no_edge m)) (eq_or_ne n k))
 
-  at_sound : (i j : ℕ) (es : List Edge) (f : Found) → i < length ps → j < length (polygon_at ps i).corners → All (Sound ps) es
+  at_sound : (i j : ℕ) (es : List Edge) (f : Option ℕ) → i < length ps → j < length (polygon_at ps i).corners → All (Sound ps) es
       → All (Sound ps) (join_at i j es f)
   unfolding join_at joined_to
-  at_sound i j es (At k) h l q = set_sound es k (joined_to i j (get_or es k no_edge))
+  at_sound i j es (Some k) h l q = set_sound es k (joined_to i j (get_or es k no_edge))
       (λ (m : k < length es). let s = all_at q k no_edge m in record { poly = s.poly; side = s.side; other = h; at = l }) q
-  at_sound i j es Nothing h l q = q
+  at_sound i j es None h l q = q
 
   join_sound : (i j : ℕ) (es : List Edge) → i < length ps → j < length (polygon_at ps i).corners → All (Sound ps) es → All (Sound ps) (join_side ps i j es)
   unfolding join_side

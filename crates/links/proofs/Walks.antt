@@ -1,5 +1,6 @@
 -- The search for a free record: all records of a side start at its lower vertex, so that the first free one on the walk along that vertex's records, newest
 -- first, is the newest of all. Assumes nothing.
+use Rattle.std.specs.Prelude.{Some, None}
 use mathlib.Core.Path.{◌≡◌, refl, sym, ap, ◌∙◌}
 use mathlib.Core.Bool.{Bool, true, false, ◌&&◌}
 use mathlib.Core.List.{List}
@@ -15,7 +16,6 @@ use Rattle.laws.specs.Searches.{found, Walk}
 use Rattle.laws.proofs.Searches.{walk_none, walk_in_lem, walk_found, walk_next, walk_less, found_in}
 use Rattle.rules.specs.Links.{no_edge, is_free, newest}
 use Rattle.rules.specs.declared.Edge.{Edge}
-use Rattle.rules.specs.declared.Found.TheVariants.{At, Nothing}
 use Rattle.records.specs.Layout.{edges_at}
 use Rattle.records.specs.Fixed.{edge_fixed, fixed_count}
 use Rattle.links.specs.declared.edges.EdgeTables.{EdgeTables}
@@ -75,7 +75,7 @@ module _ (w : List ℕ) (t : EdgeTables) (nv ne : ℕ) (s : Edged w t nv ne) (lo
 
   -- a turn of the search: the record that `link` names is looked at
   module _ {link : ℕ} (r : Search w t nv ne low high link) where
-    pub search_none : link ≤ 0 → Nothing ≡ newest low high (edges_at w t.edges ne)
+    pub search_none : link ≤ 0 → None ≡ newest low high (edges_at w t.edges ne)
     unfolding es
     search_none h = walk_none (free_at low high es) (low_of es) low (starts low high es) ne r.walk h ∙ as_newest
 
@@ -86,7 +86,7 @@ module _ (w : List ℕ) (t : EdgeTables) (nv ne : ℕ) (s : Edged w t nv ne) (lo
       pub search_in : link - 1 < ne
       search_in = walk_in_lem (free_at low high (edges_at w t.edges ne)) (low_of (edges_at w t.edges ne)) low (starts low high (edges_at w t.edges ne)) ne r.walk (link - 1) named
 
-      pub search_found : is_free low high (get_or (edges_at w t.edges ne) (link - 1) no_edge) ≡ true → At (link - 1) ≡ newest low high (edges_at w t.edges ne)
+      pub search_found : is_free low high (get_or (edges_at w t.edges ne) (link - 1) no_edge) ≡ true → Some (link - 1) ≡ newest low high (edges_at w t.edges ne)
       unfolding es
       search_found e = walk_found (free_at low high es) (low_of es) low (starts low high es) ne r.walk (link - 1) named e ∙ as_newest
 
@@ -104,6 +104,6 @@ pub free_made : (low high : ℕ) {e f : Edge} {b t : Bool} → e ≡ f → b ≡
 free_made low high p q r = ap (is_free low high) (sym p) ∙ sym q ∙ r
 
 -- what is found is one of the records
-pub newest_in : (low high : ℕ) (es : List Edge) (k : ℕ) → At k ≡ newest low high es → k < length es
+pub newest_in : (low high : ℕ) (es : List Edge) (k : ℕ) → Some k ≡ newest low high es → k < length es
 unfolding newest
 newest_in low high es k e = found_in (free_at low high es) (length es) k e

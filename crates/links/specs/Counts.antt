@@ -1,6 +1,6 @@
 -- There are never more records than the polygons have corners. Assumes nothing.
 -- Key: `edges_few`; `corners_most`: how many corners they can have.
-use Rattle.std.specs.Prelude.{◌≡◌, ltb, drop, get_or}
+use Rattle.std.specs.Prelude.{◌≡◌, ltb, drop, get_or, Option, Some, None}
 use Rattle.std.proofs.Math.Path.{refl}
 use mathlib.Core.List.{List, [], ◌∷◌}
 use Prim.Native.Nat.{ℕ, zero, suc, ◌+◌, ◌*◌, ◌≤◌, ◌<◌}
@@ -11,8 +11,6 @@ use Rattle.mem.specs.Loops.{each, each_at, each_kept}
 use Rattle.rules.specs.Mesh.{Polygon, no_polygon, polygon_at, side_start, side_end}
 use Rattle.rules.specs.Links.{no_edge, each_side, record_side, newest, joined_to, join_at, join_side, edges_of}
 use Rattle.rules.specs.declared.Edge.{Edge}
-use Rattle.rules.specs.declared.Found.{Found}
-use Rattle.rules.specs.declared.Found.TheVariants.{At, Nothing}
 use Rattle.laws.specs.Lists.{All, none, more, total}
 use Rattle.laws.proofs.Lists.{all_at}
 use Rattle.laws.specs.Measures.{spares_in}
@@ -64,10 +62,10 @@ module _ (ps : List Polygon) where
       omega (arith, rw e at (corners_left ps i h))) es (omega arith) in
       omega arith
 
-  at_length : (i j : ℕ) (es : List Edge) (f : Found) → length (join_at i j es f) ≡ length es
+  at_length : (i j : ℕ) (es : List Edge) (f : Option ℕ) → length (join_at i j es f) ≡ length es
   unfolding join_at
-  at_length i j es (At k) = length-set es k (joined_to i j (get_or es k no_edge))
-  at_length i j es Nothing = refl
+  at_length i j es (Some k) = length-set es k (joined_to i j (get_or es k no_edge))
+  at_length i j es None = refl
 
   join_length : (i j : ℕ) (es : List Edge) → length (join_side ps i j es) ≡ length es
   unfolding join_side

@@ -59,9 +59,7 @@ pub fn build_mesh_adjacency(
 {
     let ne = link_sides(work, o, np, nv, t);
     fill(work, lo, np * LINK_SIZE, NONE);
-    let mut k = 0;
-    while k < ne {
+    for k in 0..ne {
         store_links(work, t, ne, k, lo);
-        k += 1;
     }
 }

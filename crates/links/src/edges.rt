@@ -1,12 +1,11 @@
 // The records of sides, chained by their lower vertex: one more, the newest that is free, and one joined.
-ghost use Rattle.std.specs.Prelude.{◌≡◌, [], ◌∷◌, ◌++◌, ◌+◌, ◌<◌};
+ghost use Rattle.std.specs.Prelude.{◌≡◌, [], ◌∷◌, ◌++◌, ◌+◌, ◌<◌, Some};
 ghost use Rattle.rules.specs.Links.{is_free, newest, join_at};
-ghost use Rattle.rules.specs.declared.Found.TheVariants.{At};
 ghost use Rattle.records.specs.Layout.{edges_at};
 ghost use Rattle.links.specs.Tables.{edged, Room, Edged};
 
 use records::edge::{EDGE_SIZE, load_edge, store_edge};
-use rules::{Edge, Found};
+use rules::Edge;
 use words::places::link_at;
 
 // Where the words of the records stand: for each vertex the newest record that starts there, the records, and for each
@@ -39,16 +38,16 @@ fn is_free(e: Edge, low: u32, high: u32) -> bool
 
 // The newest of the ne records from low to high that is not yet joined. Those of its lower vertex are looked at from the
 // newest on.
-pub fn find_free(work: &[u32], t: EdgeTables, nv: usize, ne: usize, low: u32, high: u32) -> Found
+pub fn find_free(work: &[u32], t: EdgeTables, nv: usize, ne: usize, low: u32, high: u32) -> Option<usize>
     requires { Edged work.now t nv ne × (low < nv) }
     ensures { result ≡ newest low high (edges_at work.now t.edges ne) }
 {
-    let mut found = Found::Nothing;
+    let mut found = None;
     let mut link = link_at(work, t.firsts + low as usize);
     while 0 < link {
         let k = link - 1;
         if is_free(load_edge(work, t.edges, ne, k), low, high) {
-            found = Found::At(k);
+            found = Some(k);
             break;
         }
         link = link_at(work, t.nexts + k);
@@ -59,7 +58,7 @@ pub fn find_free(work: &[u32], t: EdgeTables, nv: usize, ne: usize, low: u32, hi
 // Record k is joined to side j of polygon i.
 pub fn join_edge(work: &mut [u32], t: EdgeTables, nv: usize, ne: usize, k: usize, i: u32, j: u32)
     requires { Edged work.old t nv ne × (k < ne) }
-    ensures { work.new ≡ edged work.old t nv (join_at i j (edges_at work.old t.edges ne) (At k)) }
+    ensures { work.new ≡ edged work.old t nv (join_at i j (edges_at work.old t.edges ne) (Some k)) }
 {
     let e = load_edge(work, t.edges, ne, k);
     let f = Edge {

@@ -69,10 +69,8 @@ fn mark_polygon(work: &mut [u32], vo: usize, nv: usize, p: Poly, at: usize, w: u
     requires { LinksInHand work.old vo nv p at }
     ensures { work.new ≡ splice work.old at (portals_in (vertices_at work.old vo nv) w h (corners_of p) (view work.old at p.n)) }
 {
-    let mut j = 0;
-    while j < p.n {
+    for j in 0..p.n {
         work[at + j] = portal_at(work, vo, nv, p, at, j, w, h);
-        j += 1;
     }
 }
 
@@ -94,10 +92,8 @@ pub fn mark_portals(
     if border == 0 {
         return;
     }
-    let mut i = 0;
-    while i < np {
+    for i in 0..np {
         let p = load_at(work, o, np, i);
         mark_polygon(work, vo, nv, p, lo + i * LINK_SIZE, w, h);
-        i += 1;
     }
 }

@@ -9,7 +9,7 @@ ghost use Rattle.links.specs.Ready.{record_of, join_of, corners_in, InHand, Side
 
 use crate::edges::{EdgeTables, find_free, join_edge, put_edge};
 use records::polygon::{Poly, corner, load_at, side_end};
-use rules::{Edge, Found};
+use rules::Edge;
 
 // Side j of polygon i, whose value is p, is recorded if it runs from a lower to a higher vertex. The result says how many
 // records there are then.
@@ -48,10 +48,8 @@ fn record_polygon(work: &mut [u32], t: EdgeTables, nv: usize, ne: usize, i: usiz
     ensures { Rewritten work.old work.new t nv ne (each (record_of (corners_of p) i) 0 (length (corners_of p)) (edges_at work.old t.edges ne)) p.n result }
 {
     let mut n = ne;
-    let mut j = 0;
-    while j < p.n {
+    for j in 0..p.n {
         n = record_side(work, t, nv, n, i, p, j);
-        j += 1;
     }
     n
 }
@@ -69,11 +67,9 @@ pub fn record_sides(
     ensures { SidesRecorded work.old work.new o np nv t ne result }
 {
     let mut n = ne;
-    let mut i = 0;
-    while i < np {
+    for i in 0..np {
         let p = load_at(work, o, np, i);
         n = record_polygon(work, t, nv, n, i, p);
-        i += 1;
     }
     n
 }
@@ -87,11 +83,11 @@ fn join_side(work: &mut [u32], t: EdgeTables, nv: usize, ne: usize, i: usize, p:
     let b = side_end(p, j);
     if b < a {
         match find_free(work, t, nv, ne, b, a) {
-            Found::At(k) => {
+            Some(k) => {
                 join_edge(work, t, nv, ne, k, i as u32, j as u32);
                 return;
             }
-            Found::Nothing => {
+            None => {
                 return;
             }
         }
@@ -103,10 +99,8 @@ fn join_polygon(work: &mut [u32], t: EdgeTables, nv: usize, ne: usize, i: usize,
     requires { InHand work.old t nv ne i p × (p.n ≤ most_corners) }
     ensures { Rewritten work.old work.new t nv ne (each (join_of (corners_of p) i) 0 (length (corners_of p)) (edges_at work.old t.edges ne)) 0 ne }
 {
-    let mut j = 0;
-    while j < p.n {
+    for j in 0..p.n {
         join_side(work, t, nv, ne, i, p, j);
-        j += 1;
     }
 }
 
@@ -115,10 +109,8 @@ pub fn join_sides(work: &mut [u32], o: usize, np: usize, nv: usize, t: EdgeTable
     requires { Sides work.old o np nv t × Edged work.old t nv ne }
     ensures { SidesJoined work.old work.new o np nv t ne }
 {
-    let mut i = 0;
-    while i < np {
+    for i in 0..np {
         let p = load_at(work, o, np, i);
         join_polygon(work, t, nv, ne, i, p);
-        i += 1;
     }
 }

@@ -34,9 +34,7 @@ pub fn close_up(numbers: &mut [u16], kept: &[u32], to: usize)
     ensures { numbers.new ≡ splice numbers.old (to * job_stride) (packed traced_words
         (map (point_of numbers.old) kept.now)) }
 {
-    let mut i = 0;
-    while i < kept.len() {
+    for i in 0..kept.len() {
         move_vertex(numbers, link_at(kept, i), to + i);
-        i += 1;
     }
 }

@@ -45,13 +45,11 @@ pub fn count_lost(lengths: &[u32], numbers: &mut [u16], list: &mut [u32], work: 
 {
     let mut first = 0;
     let mut lost = 0;
-    let mut c = 0;
-    while c < lengths.len() {
+    for c in 0..lengths.len() {
         let n = link_at(lengths, c);
         let at = walk(false, numbers, list, work, first, n, lost);
         lost = at.lost;
         first += n;
-        c += 1;
     }
     lost
 }
@@ -69,8 +67,7 @@ pub fn mend_all(
 {
     let mut all = Tally { kept: 0, lost: 0 };
     let mut first = 0;
-    let mut c = 0;
-    while c < lengths.len() {
+    for c in 0..lengths.len() {
         let n = link_at(lengths, c);
         let one = mend_contour(numbers, list, work, first, n, all.kept, all.lost);
         lengths[c] = one.kept as u32;
@@ -79,7 +76,6 @@ pub fn mend_all(
             lost: one.lost,
         };
         first += n;
-        c += 1;
     }
     all
 }

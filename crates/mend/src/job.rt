@@ -38,10 +38,8 @@ fn longest_of(lengths: &[u32]) -> usize
     ensures { result ≡ longest lengths.now }
 {
     let mut most = 0;
-    let mut c = 0;
-    while c < lengths.len() {
+    for c in 0..lengths.len() {
         most = longer_of(most, link_at(lengths, c));
-        c += 1;
     }
     most
 }

@@ -100,10 +100,8 @@ pub fn pass_all(
 {
     work[0] = first as u32;
     let mut at = Walk { top: 1, lost: lost };
-    let mut j = first + 1;
-    while j < e {
+    for j in first + 1..e {
         at = pass(writes, numbers, list, work, e, j, at);
-        j += 1;
     }
     at
 }

@@ -46,10 +46,8 @@ pub fn put_lost(out: &mut [u8], lengths: &[u32], lost: &[u32]) -> usize
     ensures { Printed (lost_text_of lengths.now lost.now) out.old out.new 0 result }
 {
     let mut to = 0;
-    let mut i = 0;
-    while i < lost.len() {
+    for i in 0..lost.len() {
         to = put_lost_line(out, to, lengths, lost[i]);
-        i += 1;
     }
     to
 }

@@ -26,11 +26,9 @@ fn put_points(out: &mut [u8], at: usize, numbers: &[u16], first: usize, end: usi
     ensures { Printed (texts_from (traced_line numbers.now) first end) out.old out.new at result }
 {
     let mut to = at;
-    let mut k = first;
-    while k < end {
+    for k in first..end {
         let from = k * 4;
         to = put_line16(out, to, b"v", &numbers[from..from + 4]);
-        k += 1;
     }
     to
 }
@@ -50,14 +48,12 @@ fn put_contours(
 {
     let mut to = at;
     let mut first = 0;
-    let mut c = 0;
-    while c < lengths.len() {
+    for c in 0..lengths.len() {
         let words = [regions[c] as u32, codes[c] as u32, lengths[c]];
         let end = first + lengths[c] as usize;
         to = put_line32(out, to, b"contour", &words);
         to = put_points(out, to, numbers, first, end);
         first = end;
-        c += 1;
     }
     to
 }

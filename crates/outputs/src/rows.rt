@@ -15,10 +15,8 @@ fn put_corners(out: &mut [u16], to: usize, p: Poly, n: usize)
     requires { RowReady out.old to p n }
     ensures { out.new ≡ splice out.old to (corner_words n (polygon_of p)) }
 {
-    let mut k = 0;
-    while k < n {
+    for k in 0..n {
         out[to + k] = p.corners[k] as u16;
-        k += 1;
     }
 }
 
@@ -27,11 +25,9 @@ pub fn copy_corners(work: &[u32], o: usize, np: usize, nvp: usize, out: &mut [u1
     requires { CornersReady work.now o np nvp out.old }
     ensures { out.new ≡ splice out.old 0 (packed (corner_words nvp) (polygons_at work.now o np)) }
 {
-    let mut i = 0;
-    while i < np {
+    for i in 0..np {
         let p = load_at(work, o, np, i);
         put_corners(out, i * nvp, p, nvp);
-        i += 1;
     }
 }
 
@@ -40,10 +36,8 @@ fn put_links(work: &[u32], at: usize, n: usize, out: &mut [u32], to: usize)
     requires { (at + n ≤ length work.now) × (to + n ≤ length out.old) }
     ensures { out.new ≡ splice out.old to (view work.now at n) }
 {
-    let mut j = 0;
-    while j < n {
+    for j in 0..n {
         out[to + j] = work[at + j];
-        j += 1;
     }
 }
 
@@ -52,9 +46,7 @@ pub fn copy_links(work: &[u32], o: usize, np: usize, lo: usize, nvp: usize, out:
     requires { LinksReady work.now o np lo nvp out.old }
     ensures { out.new ≡ splice out.old 0 (packed (padded nvp) (links_at work.now lo (polygons_at work.now o np))) }
 {
-    let mut i = 0;
-    while i < np {
+    for i in 0..np {
         put_links(work, lo + i * LINK_SIZE, nvp, out, i * nvp);
-        i += 1;
     }
 }

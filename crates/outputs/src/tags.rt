@@ -11,10 +11,8 @@ pub fn copy_regions(work: &[u32], o: usize, np: usize, out: &mut [u16])
     requires { RegionsReady work.now o np out.old }
     ensures { out.new ≡ splice out.old 0 (map (λ p. p.region) (polygons_at work.now o np)) }
 {
-    let mut i = 0;
-    while i < np {
+    for i in 0..np {
         out[i] = work[o + i * POLYGON_SIZE + 1] as u16;
-        i += 1;
     }
 }
 
@@ -23,10 +21,8 @@ pub fn copy_codes(work: &[u32], o: usize, np: usize, out: &mut [u8])
     requires { CodesReady work.now o np out.old }
     ensures { out.new ≡ splice out.old 0 (map (λ p. p.code) (polygons_at work.now o np)) }
 {
-    let mut i = 0;
-    while i < np {
+    for i in 0..np {
         out[i] = work[o + i * POLYGON_SIZE + 2] as u8;
-        i += 1;
     }
 }
 
@@ -35,9 +31,7 @@ pub fn clear_flags(out: &mut [u16], np: usize)
     requires { np ≤ length out.old }
     ensures { out.new ≡ splice out.old 0 (replicate np 0) }
 {
-    let mut k = 0;
-    while k < np {
+    for k in 0..np {
         out[k] = 0;
-        k += 1;
     }
 }

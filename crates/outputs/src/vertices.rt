@@ -14,13 +14,11 @@ pub fn copy_vertices(work: &[u32], vo: usize, nv: usize, out: &mut [u16])
     requires { VerticesReady work.now vo nv out.old }
     ensures { out.new ≡ splice out.old 0 (packed vertex_words (vertices_at work.now vo nv)) }
 {
-    let mut k = 0;
-    while k < nv {
+    for k in 0..nv {
         let at = vo + k * VERTEX_SIZE;
         let to = k * VERTEX_STRIDE;
         out[to] = work[at] as u16;
         out[to + 1] = work[at + 1] as u16;
         out[to + 2] = work[at + 2] as u16;
-        k += 1;
     }
 }

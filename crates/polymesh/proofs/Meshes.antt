@@ -1,5 +1,6 @@
 -- The checks and the build together: what each reply comes to, on any numbers. Assumes nothing.
 -- Key: `refused_all`: a check refuses, and nothing is written; `build_ready`: a job that passes can be built; `built_all`: what the buffers hold then.
+use Rattle.std.specs.Prelude.{Option, Some, None}
 use mathlib.Core.Path.{◌≡◌, refl, sym, ap, ap₂, ◌∙◌}
 use mathlib.Core.Bool.{Bool, true, false, cond}
 use mathlib.Core.List.{List, ◌++◌}
@@ -15,8 +16,6 @@ use Rattle.rules.specs.Build.{Outcome, refused, built, add_all, after_check, out
 use Rattle.rules.specs.Exits.{wiped, only_wiped, filled, exit_of, exits}
 use Rattle.rules.specs.Widths.{Widths}
 use Rattle.rules.specs.Checker.{OwnAccepted}
-use Rattle.rules.specs.declared.Found.{Found}
-use Rattle.rules.specs.declared.Found.TheVariants.{At, Nothing}
 use Rattle.rules.specs.declared.Header.{Header}
 use Rattle.rules.specs.declared.Answer.{Answer}
 use Rattle.rules.specs.declared.Refusal.{Refusal}
@@ -71,10 +70,10 @@ unfolding refuse_if
 quiet_if true x h = quiet_one x h
 quiet_if false x h = not_quiet
 
-quiet_at : (f : ℕ → Refusal) → ((k : ℕ) → writes_nothing (f k) ≡ true) → (x : Found) → Quiet (refuse_at f x)
+quiet_at : (f : ℕ → Refusal) → ((k : ℕ) → writes_nothing (f k) ≡ true) → (x : Option ℕ) → Quiet (refuse_at f x)
 unfolding refuse_at
-quiet_at f h (At k) = quiet_one (f k) (h k)
-quiet_at f h Nothing = not_quiet
+quiet_at f h (Some k) = quiet_one (f k) (h k)
+quiet_at f h None = not_quiet
 
 quiet_check : (j : Job) (ls : List ℕ) → Quiet (check j ls)
 unfolding check check_nvp check_counts check_v writes_nothing

@@ -1,5 +1,6 @@
 -- The search for the shared side: rows of sides of a from the last down, and in each row the sides of b from the first up. The answer is always the
 -- answer of what is left. Assumes nothing.
+use Rattle.std.specs.Prelude.{Option, Some, None}
 use mathlib.Core.Path.{◌≡◌, refl, sym, ◌∙◌}
 use mathlib.Core.Bool.{Bool, true, false, ◌&&◌, ◌||◌}
 use mathlib.Core.List.{List}
@@ -13,13 +14,11 @@ use Rattle.laws.proofs.Lists.{down_turn}
 use Rattle.laws.proofs.Ring.{next_in}
 use Rattle.rules.specs.Mesh.{side_start, side_end}
 use Rattle.rules.specs.Merge.{is_along, is_opposite, is_equal, sides_at, or_sides, shared_by, shared_side}
-use Rattle.rules.specs.declared.Shared.{Shared}
-use Rattle.rules.specs.declared.Shared.TheVariants.{Sides, NoSide}
 
 module _ (a b : List ℕ) where
   -- what the rows below i find
-  unfoldable pub below : ℕ → Shared
-  below i = down NoSide or_sides (shared_by a b) i
+  unfoldable pub below : ℕ → Option (ℕ × ℕ)
+  below i = down None or_sides (shared_by a b) i
 
   -- the rows below i are left
   pub record Rows (i : ℕ) : Type 0 where
@@ -31,25 +30,25 @@ module _ (a b : List ℕ) where
   rows_all n e = record { same = rw e; most = omega arith }
 
   module _ {i : ℕ} (r : Rows i) where
-    pub rows_none : i ≤ 0 → NoSide ≡ shared_side a b
+    pub rows_none : i ≤ 0 → None ≡ shared_side a b
     unfolding below down
     rows_none h = let z : i ≡ 0 = omega arith in sym (rw z at r.same)
 
     rows_turn : 0 < i → shared_side a b ≡ or_sides (shared_by a b (i - 1)) (below (i - 1))
     unfolding below
-    rows_turn h = r.same ∙ down_turn NoSide or_sides (shared_by a b) i h
+    rows_turn h = r.same ∙ down_turn None or_sides (shared_by a b) i h
 
-    pub rows_next : {s : Shared} → 0 < i → s ≡ shared_by a b (i - 1) → s ≡ NoSide → Rows (i - 1)
+    pub rows_next : {s : Option (ℕ × ℕ)} → 0 < i → s ≡ shared_by a b (i - 1) → s ≡ None → Rows (i - 1)
     unfolding or_sides
     rows_next h e f = record { same = rw (← e, f) at (rows_turn h); most = omega (arith, r.most) }
 
-    pub rows_hit : {s : Shared} (k j : ℕ) → 0 < i → s ≡ shared_by a b (i - 1) → s ≡ Sides k j → Sides k j ≡ shared_side a b
+    pub rows_hit : {s : Option (ℕ × ℕ)} (k j : ℕ) → 0 < i → s ≡ shared_by a b (i - 1) → s ≡ Some (k, j) → Some (k, j) ≡ shared_side a b
     unfolding or_sides
     rows_hit k j h e f = sym (rw (← e, f) at (rows_turn h))
 
   -- row i from side j on is left
   pub record Row (i j : ℕ) : Type 0 where
-    pub left : Left NoSide or_sides (sides_at a b i) (λ x. x) (shared_by a b i) (length b) j
+    pub left : Left None or_sides (sides_at a b i) (λ x. x) (shared_by a b i) (length b) j
 
   row_start : (i : ℕ) → Row i 0
   unfolding shared_by
@@ -60,15 +59,15 @@ module _ (a b : List ℕ) where
     unfolding sides_at or_sides
     row_next h e = record { left = next r.left h (λ x. rw e) }
 
-    pub row_hit : j < length b → is_equal a b i j ≡ true → Sides i j ≡ shared_by a b i
+    pub row_hit : j < length b → is_equal a b i j ≡ true → Some (i, j) ≡ shared_by a b i
     unfolding sides_at or_sides
     row_hit h e = sym (turn r.left h ∙ rw e)
 
-    pub row_end : length b ≤ j → NoSide ≡ shared_by a b i
+    pub row_end : length b ≤ j → None ≡ shared_by a b i
     row_end h = sym (end r.left h)
 
   -- a polygon of no sides
-  pub row_none : (i : ℕ) → length b ≡ 0 → NoSide ≡ shared_by a b i
+  pub row_none : (i : ℕ) → length b ≡ 0 → None ≡ shared_by a b i
   row_none i e = row_end (row_start i) (omega arith)
 
   -- the same, with the corner in hand where side j starts

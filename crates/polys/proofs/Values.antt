@@ -1,4 +1,5 @@
 -- The value of a pair: what the functions find of two polygons in the buffer is what R4 says of their corners. Assumes nothing.
+use Rattle.std.specs.Prelude.{Some, None}
 use mathlib.Core.Path.{◌≡◌, ap, ◌∙◌}
 use mathlib.Core.Bool.{Bool, true, false, ◌&&◌}
 use mathlib.Core.List.{List}
@@ -13,7 +14,6 @@ use Rattle.rules.specs.Merge.{is_opposite, shared_side, fits, turns_left, may_jo
 use Rattle.rules.specs.declared.Point.{Point}
 use Rattle.rules.specs.declared.Vertex.{Vertex}
 use Rattle.rules.specs.declared.Pair.{Pair}
-use Rattle.rules.specs.declared.Shared.TheVariants.{Sides, NoSide}
 use Rattle.laws.proofs.Lists.{all_at}
 use Rattle.laws.specs.Merge.{Good, Below}
 use Rattle.laws.proofs.Shared.{shared_at}
@@ -70,7 +70,7 @@ module _ {w : List ℕ} {vo nv o np nvp : ℕ} (ready : Ready w vo nv o np nvp) 
   corners_in_lem i h = corners_at_lem w o np i ready.fits h
 
   pub joint_of : (a b i j : ℕ) → a < np → b < np
-      → Sides i j ≡ shared_side (corners_from w (o + a * polygon_size)) (corners_from w (o + b * polygon_size)) → Joint w vo nv (o + a * polygon_size) (o + b * polygon_size) i j
+      → Some (i, j) ≡ shared_side (corners_from w (o + a * polygon_size)) (corners_from w (o + b * polygon_size)) → Joint w vo nv (o + a * polygon_size) (o + b * polygon_size) i j
   joint_of a b i j ha hb e =
       let h = shared_at (corners_from w (o + a * polygon_size)) (corners_from w (o + b * polygon_size)) i j e in
       record {
@@ -85,13 +85,13 @@ module _ {w : List ℕ} {vo nv o np nvp : ℕ} (ready : Ready w vo nv o np nvp) 
 
 module _ (vs : List Vertex) (nvp : ℕ) (ps : List Polygon) (a b : ℕ) where
   value_sides : (i j : ℕ) → length (polygon_at ps a).corners + length (polygon_at ps b).corners ≤ nvp + 2
-      → Sides i j ≡ shared_side (polygon_at ps a).corners (polygon_at ps b).corners
+      → Some (i, j) ≡ shared_side (polygon_at ps a).corners (polygon_at ps b).corners
       → pair_of vs (polygon_at ps a).corners (polygon_at ps b).corners a b i j ≡ merge_value vs nvp ps a b
   unfolding merge_value fits pair_at pair_of
   value_sides i j h e = rw (merge_value, le-leb (length (polygon_at ps a).corners + length (polygon_at ps b).corners - 2) nvp (omega arith), ← e)
 
   value_none : length (polygon_at ps a).corners + length (polygon_at ps b).corners ≤ nvp + 2
-      → NoSide ≡ shared_side (polygon_at ps a).corners (polygon_at ps b).corners → no_pair ≡ merge_value vs nvp ps a b
+      → None ≡ shared_side (polygon_at ps a).corners (polygon_at ps b).corners → no_pair ≡ merge_value vs nvp ps a b
   unfolding merge_value fits pair_at
   value_none h e = rw (merge_value, le-leb (length (polygon_at ps a).corners + length (polygon_at ps b).corners - 2) nvp (omega arith), ← e)
 
@@ -102,7 +102,7 @@ module _ (vs : List Vertex) (nvp : ℕ) (ps : List Polygon) (a b : ℕ) where
 -- the same, of what was read in the buffer
 module _ {w : List ℕ} {vo nv o np nvp : ℕ} (ready : Ready w vo nv o np nvp) (a b : ℕ) (ha : a < np) (hb : b < np) {m n : ℕ} {r : Pair}
     (em : m ≡ length (corners_from w (o + a * polygon_size))) (en : n ≡ length (corners_from w (o + b * polygon_size))) where
-  pub value_at_sides : (i j : ℕ) → m + n ≤ nvp + 2 → Sides i j ≡ shared_side (corners_from w (o + a * polygon_size)) (corners_from w (o + b * polygon_size))
+  pub value_at_sides : (i j : ℕ) → m + n ≤ nvp + 2 → Some (i, j) ≡ shared_side (corners_from w (o + a * polygon_size)) (corners_from w (o + b * polygon_size))
       → r ≡ pair_of (vertices_at w vo nv) (corners_from w (o + a * polygon_size)) (corners_from w (o + b * polygon_size)) a b i j
       → r ≡ merge_value (vertices_at w vo nv) nvp (polygons_at w o np) a b
   value_at_sides i j h e f =
@@ -110,7 +110,7 @@ module _ {w : List ℕ} {vo nv o np nvp : ℕ} (ready : Ready w vo nv o np nvp) 
       ∙ value_sides _ nvp _ a b i j (omega (arith, ap length (corners_in_lem ready a ha), ap length (corners_in_lem ready b hb)))
       (rw (corners_in_lem ready a ha, corners_in_lem ready b hb) at e)
 
-  pub value_at_none : m + n ≤ nvp + 2 → NoSide ≡ shared_side (corners_from w (o + a * polygon_size)) (corners_from w (o + b * polygon_size)) → r ≡ no_pair
+  pub value_at_none : m + n ≤ nvp + 2 → None ≡ shared_side (corners_from w (o + a * polygon_size)) (corners_from w (o + b * polygon_size)) → r ≡ no_pair
       → r ≡ merge_value (vertices_at w vo nv) nvp (polygons_at w o np) a b
   value_at_none h e f =
       f

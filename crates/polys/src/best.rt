@@ -30,10 +30,8 @@ fn best_of_row(
     ensures { result ≡ best_of_row (vertices_at work.now vo nv) nvp (polygons_at work.now o np) a best }
 {
     let mut m = best;
-    let mut b = a + 1;
-    while b < np {
+    for b in a + 1..np {
         m = greater(m, get_poly_merge_value(work, vo, nv, o, np, nvp, a, b));
-        b += 1;
     }
     m
 }
@@ -44,10 +42,8 @@ pub fn best_pair(work: &[u32], vo: usize, nv: usize, o: usize, np: usize, nvp: u
     ensures { result ≡ best_pair (vertices_at work.now vo nv) nvp (polygons_at work.now o np) }
 {
     let mut m = no_pair();
-    let mut a = 0;
-    while a < np {
+    for a in 0..np {
         m = best_of_row(work, vo, nv, o, np, nvp, a, m);
-        a += 1;
     }
     m
 }

@@ -30,10 +30,8 @@ fn put_past(c: [u32; 12], at: usize, p: Poly, e: usize) -> [u32; 12]
     ensures { result ≡ splice c at (past_side (corners_of p) e) }
 {
     let mut d = c;
-    let mut i = 0;
-    while i < p.n - 1 {
+    for i in 0..p.n - 1 {
         d[at + i] = p.corners[(e + 1 + i) % p.n];
-        i += 1;
     }
     d
 }

@@ -89,10 +89,8 @@ fn stamped_row(
     ensures { result ≡ row_of (vertices_at work.now vo nv) nvp (polygons_at work.now o np) a }
 {
     let mut m = no_pair();
-    let mut b = a + 1;
-    while b < np {
+    for b in a + 1..np {
         m = greater(m, stamped_value(work, vo, nv, o, np, nvp, ro, a, s, b));
-        b += 1;
     }
     m
 }

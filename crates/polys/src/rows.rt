@@ -29,10 +29,8 @@ fn best_kept(work: &[u32], vo: usize, nv: usize, o: usize, np: usize, nvp: usize
     ensures { result ≡ best_pair (vertices_at work.now vo nv) nvp (polygons_at work.now o np) }
 {
     let mut m = no_pair();
-    let mut r = 0;
-    while r < np {
+    for r in 0..np {
         m = greater(m, row_at(work, ro, r));
-        r += 1;
     }
     m
 }

@@ -4,7 +4,6 @@ ghost use Rattle.rules.specs.Merge.{shared_by, shared_side};
 ghost use Rattle.records.specs.Values.{corners_from, Stands, CornerOf};
 
 use records::corner::{corner_from, count_from, end_from};
-use rules::Shared;
 
 // Whether the sides from a to b and from c to d run the same way.
 fn is_along(a: u32, b: u32, c: u32, d: u32) -> bool
@@ -31,7 +30,7 @@ fn is_equal(a: u32, b: u32, c: u32, d: u32) -> bool
 }
 
 // Side i of the first, and the first side of the second that is equal to it.
-fn shared_by(work: &[u32], at: usize, bt: usize, i: usize) -> Shared
+fn shared_by(work: &[u32], at: usize, bt: usize, i: usize) -> Option<(usize, usize)>
     requires { CornerOf work.now at i × Stands work.now bt }
     ensures { result ≡ shared_by (corners_from work.now at) (corners_from work.now bt) i }
 {
@@ -39,23 +38,21 @@ fn shared_by(work: &[u32], at: usize, bt: usize, i: usize) -> Shared
     let b = end_from(work, at, i);
     let n = count_from(work, bt);
     if n == 0 {
-        return Shared::NoSide;
+        return None;
     }
     let mut c = corner_from(work, bt, 0);
-    let mut j = 0;
-    while j < n {
+    for j in 0..n {
         let d = end_from(work, bt, j);
         if is_equal(a, b, c, d) {
-            return Shared::Sides(i, j);
+            return Some((i, j));
         }
         c = d;
-        j += 1;
     }
-    Shared::NoSide
+    None
 }
 
 // The last side of the first with an equal one in the second, and the first such in that.
-pub fn shared_side(work: &[u32], at: usize, bt: usize) -> Shared
+pub fn shared_side(work: &[u32], at: usize, bt: usize) -> Option<(usize, usize)>
     requires { Stands work.now at × Stands work.now bt }
     ensures { result ≡ shared_side (corners_from work.now at) (corners_from work.now bt) }
 {
@@ -63,11 +60,11 @@ pub fn shared_side(work: &[u32], at: usize, bt: usize) -> Shared
     while 0 < i {
         i -= 1;
         match shared_by(work, at, bt, i) {
-            Shared::Sides(k, j) => {
-                return Shared::Sides(k, j);
+            Some((k, j)) => {
+                return Some((k, j));
             }
-            Shared::NoSide => {}
+            None => {}
         }
     }
-    Shared::NoSide
+    None
 }

@@ -20,10 +20,8 @@ pub fn stamp_from(work: &[u32], at: usize) -> u32
 {
     let n = count_from(work, at);
     let mut s = 0u32;
-    let mut i = 0;
-    while i < n {
+    for i in 0..n {
         s = s | stamp_bit(corner_from(work, at, i));
-        i += 1;
     }
     s
 }

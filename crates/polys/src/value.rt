@@ -16,7 +16,7 @@ use plane::ring::next;
 use plane::turn::is_left;
 use records::corner::{corner_from, count_from, end_from, place_from};
 use records::polygon::POLYGON_SIZE;
-use rules::{Pair, Shared};
+use rules::Pair;
 
 // Whether the corner where side i of the one at `at` starts turns left into the one at `bt`, past its side j.
 fn turns_left(work: &[u32], vo: usize, nv: usize, at: usize, bt: usize, i: usize, j: usize) -> bool
@@ -117,7 +117,7 @@ pub fn get_poly_merge_value(
         return no_pair();
     }
     match shared_side(work, at, bt) {
-        Shared::Sides(i, j) => pair_of(work, vo, nv, at, bt, a, b, i, j),
-        Shared::NoSide => no_pair(),
+        Some((i, j)) => pair_of(work, vo, nv, at, bt, a, b, i, j),
+        None => no_pair(),
     }
 }

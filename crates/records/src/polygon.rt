@@ -46,10 +46,8 @@ pub fn load_poly(work: &[u32], at: usize) -> Poly
 {
     let n = work[at] as usize;
     let mut c = [NONE; 12];
-    let mut i = 0;
-    while i < n {
+    for i in 0..n {
         c[i] = work[at + CORNERS_AT + i];
-        i += 1;
     }
     Poly {
         corners: c,
@@ -67,10 +65,8 @@ pub fn store_poly(work: &mut [u32], at: usize, p: Poly)
     work[at] = p.n as u32;
     work[at + 1] = p.region;
     work[at + 2] = p.code;
-    let mut i = 0;
-    while i < MOST_CORNERS {
+    for i in 0..MOST_CORNERS {
         work[at + CORNERS_AT + i] = p.corners[i];
-        i += 1;
     }
     work[at + SPARE_AT] = 0;
     work[at + SPARE_AT + 1] = 0;

@@ -1,12 +1,10 @@
 -- Request 7 at the terminal: a printed mesh that is read and checked, and the verdict as a text, a function of the bytes that are read. Definitions only.
-use Rattle.std.specs.Prelude.{true, false, cond, List, [], ◌∷◌, ◌++◌, ℕ, zero, suc, ◌+◌, ◌-◌, eqb, leb, ℤ, length, take, drop, get_or, replicate}
+use Rattle.std.specs.Prelude.{true, false, cond, List, [], ◌∷◌, ◌++◌, ℕ, zero, suc, ◌+◌, ◌-◌, eqb, leb, ℤ, length, take, drop, get_or, replicate, Option, Some, None}
 use Rattle.rules.specs.Lines.{ascii, lf, Line, Numbers, malformed, numbers_of, signed_in}
 use Rattle.rules.specs.Exits.{padded}
 use Rattle.rules.specs.Sheet.{number_most, code_most, heading_lines, mesh_name, v_name, p_name, n_name, refused_text, text_by}
 use Rattle.rules.specs.Sheet.{Sheet, Read, taken, bad, and_then, line_at, need, read_heading}
 use Rattle.rules.specs.Checker.{Claim, verdict, verdict_number, verdict_second}
-use Rattle.rules.specs.declared.Signed.{Signed}
-use Rattle.rules.specs.declared.Signed.TheVariants.{Whole, NotWhole}
 use Rattle.rules.specs.declared.Verdict.{Verdict}
 
 -- ---- limits
@@ -30,9 +28,9 @@ row_words nvp = cond (leb nvp 12) nvp 12
 -- ---- what is read: "a mesh as `./mesh` prints it, with the job's `nvp` and `grid` lines behind its `cell` line"
 
 -- a whole number has to be there
-unfoldable pub need_whole : {A : Type 0} → ℕ → Signed → (ℤ → Read A) → Read A
-need_whole k (Whole z) f = f z
-need_whole k NotWhole f = bad 22 k
+unfoldable pub need_whole : {A : Type 0} → ℕ → Option ℤ → (ℤ → Read A) → Read A
+need_whole k (Some z) f = f z
+need_whole k None f = bad 22 k
 
 -- "`mesh` giving vertices, polygons and doubled area": four cells, the last of which has a sign. It is line k
 unfoldable pub need_mesh : {A : Type 0} → ℕ → Line → (ℕ → ℕ → ℤ → Read A) → Read A

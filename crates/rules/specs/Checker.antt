@@ -1,5 +1,5 @@
 -- Request 7, the checker of meshes from elsewhere: what it is asked, and its verdict. Definitions; at the end what is proved of it, in crate `laws`.
-use Rattle.std.specs.Prelude.{◌≡◌, Bool, ◌||◌, cond, ◌↔◌, List, [], ◌∷◌, ℕ, ◌*◌, ◌≤◌, ◌<◌, eqb, ltb, ℤ, ◌-ℤ◌, length, take}
+use Rattle.std.specs.Prelude.{◌≡◌, Bool, ◌||◌, cond, ◌↔◌, List, [], ◌∷◌, ℕ, ◌*◌, ◌≤◌, ◌<◌, eqb, ltb, ℤ, ◌-ℤ◌, length, take, Option, Some, None, Ok, Err}
 use Rattle.rules.specs.Plane.{is_zero}
 use Rattle.rules.specs.Mesh.{Mesh, polygon_at, side_start, side_end, place_of}
 use Rattle.rules.specs.Removal.{Removal}
@@ -13,11 +13,8 @@ use Rattle.rules.specs.Areas.{stored_area}
 use Rattle.rules.specs.Handed.{Handed, polygon_count, mesh_in, corners_at, link_at, all_of, first_fault, soundness, NamedBack, Consistent}
 use Rattle.rules.specs.Handed.{fault_number, fault_second}
 use Rattle.rules.specs.declared.Vertex.{Vertex}
-use Rattle.rules.specs.declared.Found.{Found}
-use Rattle.rules.specs.declared.Found.TheVariants.{At, Nothing}
 use Rattle.rules.specs.declared.Reply.{Reply}
 use Rattle.rules.specs.declared.Reply.TheVariants.{Built}
-use Rattle.rules.specs.declared.Soundness.TheVariants.{Sound, Broken}
 use Rattle.rules.specs.declared.Verdict.{Verdict}
 use Rattle.rules.specs.declared.Verdict.TheVariants.{Accepted, Unsound, BadPortals, BadArea}
 
@@ -55,15 +52,15 @@ area_holds c = is_zero (stored_area (mesh_in c.mesh) -ℤ c.total)
 -- ---- the verdict
 
 -- "43 portals, .. with the first polygon at fault; 44 area, with 0"
-unfoldable pub sound_verdict : Claim → Found → Verdict
-sound_verdict c (At i) = BadPortals i
-sound_verdict c Nothing = cond (area_holds c) Accepted BadArea
+unfoldable pub sound_verdict : Claim → Option ℕ → Verdict
+sound_verdict c (Some i) = BadPortals i
+sound_verdict c None = cond (area_holds c) Accepted BadArea
 
 -- "Refusals, in this order: 40 ..; 41 corners, 42 links, 43 portals, ..; 44 area"
 unfoldable pub verdict : Claim → Verdict
 verdict c = elim (soundness c.mesh) [
-  | Broken f ↦ Unsound f
-  | Sound ↦ sound_verdict c (first_fault (portals_hold c) (polygon_count c.mesh))
+  | Err f ↦ Unsound f
+  | Ok _ ↦ sound_verdict c (first_fault (portals_hold c) (polygon_count c.mesh))
 ]
 
 -- a verdict's number, 0 if it is accepted, and its second number

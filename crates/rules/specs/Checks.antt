@@ -1,11 +1,9 @@
 -- Replies 1 to 6: the lent buffers with their least lengths, and the checks in their order. Definitions only.
-use Rattle.std.specs.Prelude.{Bool, not, ◌&&◌, ◌||◌, cond, List, [], ◌∷◌, ℕ, ◌+◌, ◌*◌, eqb, leb, ltb, length, get_or}
+use Rattle.std.specs.Prelude.{Bool, not, ◌&&◌, ◌||◌, cond, List, [], ◌∷◌, ℕ, ◌+◌, ◌*◌, eqb, leb, ltb, length, get_or, Option, Some, None}
 use Rattle.mem.specs.Loops.{over}
 use Rattle.rules.specs.Lists.{when, or_else}
 use Rattle.rules.specs.Job.{Job, job_stride, vertex_at, flag_at, count_all, count_v, count_t}
 use Rattle.rules.specs.declared.Vertex.{Vertex}
-use Rattle.rules.specs.declared.Found.{Found}
-use Rattle.rules.specs.declared.Found.TheVariants.{At, Nothing}
 use Rattle.rules.specs.declared.Refusal.{Refusal}
 use Rattle.rules.specs.declared.Refusal.TheVariants.{BadCornerLimit, CountsDisagree, HighCoordinate, BadFlag, TooManyVertices, ShortBuffer}
 
@@ -50,9 +48,9 @@ or_next (refusal r) c = refusal r
 unfoldable pub refuse_if : Bool → Refusal → Checked
 refuse_if bad r = cond bad (refusal r) passed
 
-unfoldable pub refuse_at : (ℕ → Refusal) → Found → Checked
-refuse_at r (At k) = refusal (r k)
-refuse_at r Nothing = passed
+unfoldable pub refuse_at : (ℕ → Refusal) → Option ℕ → Checked
+refuse_at r (Some k) = refusal (r k)
+refuse_at r None = passed
 
 -- 1: "nvp below 3 or above 12"; "nvp"
 unfoldable pub check_nvp : Job → Checked
@@ -72,20 +70,20 @@ check_counts j = refuse_if (not (counts_agree j)) CountsDisagree
 unfoldable pub is_high : Vertex → Bool
 is_high v = ltb 32767 v.x || ltb 32767 v.z
 
-unfoldable pub first_high : Job → Found
-first_high j = over Nothing or_else (λ k. when (is_high (vertex_at j.numbers k)) k) 0 (count_all j)
+unfoldable pub first_high : Job → Option ℕ
+first_high j = over None or_else (λ k. when (is_high (vertex_at j.numbers k)) k) 0 (count_all j)
 
 -- 4: "flag other than 0 or 1"; "first such vertex, likewise"
-unfoldable pub first_bad_flag : Job → Found
-first_bad_flag j = over Nothing or_else (λ k. when (ltb 1 (flag_at j.numbers k)) k) 0 (count_all j)
+unfoldable pub first_bad_flag : Job → Option ℕ
+first_bad_flag j = over None or_else (λ k. when (ltb 1 (flag_at j.numbers k)) k) 0 (count_all j)
 
 -- 5: "V above 65,535"; "V"
 unfoldable pub check_v : Job → Checked
 check_v j = refuse_if (ltb 65535 (count_v j)) (TooManyVertices (count_v j))
 
 -- 6: "a lent buffer too short"; "first such, in the order below, from 0". have: the buffers' lengths; least: the least ones
-unfoldable pub first_short : List ℕ → List ℕ → Found
-first_short have least = over Nothing or_else (λ k. when (ltb (get_or have k 0) (get_or least k 0)) k) 0 (length least)
+unfoldable pub first_short : List ℕ → List ℕ → Option ℕ
+first_short have least = over None or_else (λ k. when (ltb (get_or have k 0) (get_or least k 0)) k) 0 (length least)
 
 -- the first of replies 1 to 6 that applies; ls are the lengths of the lent buffers
 unfoldable pub check : Job → List ℕ → Checked

@@ -1,6 +1,6 @@
 -- A mesh that is handed in: what it is, what is read of it, and refusals 40 to 42, which come first in every request that takes one. Definitions; at the end
 -- what is proved of them, in crate `laws`.
-use Rattle.std.specs.Prelude.{◌≡◌, Bool, true, false, not, ◌&&◌, ◌||◌, cond, ◌≢◌, ◌↔◌, List, [], ℕ, ◌+◌, ◌*◌, ◌/◌, ◌≤◌, ◌<◌, eqb, leb, ltb, length, get_or}
+use Rattle.std.specs.Prelude.{◌≡◌, Bool, true, false, not, ◌&&◌, ◌||◌, cond, ◌≢◌, ◌↔◌, List, [], ℕ, ◌+◌, ◌*◌, ◌/◌, ◌≤◌, ◌<◌, eqb, leb, ltb, length, get_or, Option, Some, None, Result, Ok, Err, ⊤}
 use Rattle.mem.specs.Loops.{over}
 use Rattle.rules.specs.Lists.{when, or_else}
 use Rattle.rules.specs.Plane.{on_plane, InGrid}
@@ -9,12 +9,8 @@ use Rattle.rules.specs.Mesh.{Polygon, polygon_at, side_start, side_end}
 use Rattle.rules.specs.Links.{none}
 use Rattle.rules.specs.Checks.{Lent, vertex_stride, is_high}
 use Rattle.rules.specs.Exits.{Stored, decoded}
-use Rattle.rules.specs.declared.Found.{Found}
-use Rattle.rules.specs.declared.Found.TheVariants.{At, Nothing}
 use Rattle.rules.specs.declared.Fault.{Fault}
 use Rattle.rules.specs.declared.Fault.TheVariants.{BadBuffers, BadCorners, BadLinks}
-use Rattle.rules.specs.declared.Soundness.{Soundness}
-use Rattle.rules.specs.declared.Soundness.TheVariants.{Sound, Broken}
 
 -- ---- what is handed in, and what is read of it
 
@@ -61,8 +57,8 @@ all_of test a n = over true ◌&&◌ test a n
 unfoldable pub any_of : (ℕ → Bool) → ℕ → ℕ → Bool
 any_of test a n = over false ◌||◌ test a n
 
-unfoldable pub first_fault : (ℕ → Bool) → ℕ → Found
-first_fault good n = over Nothing or_else (λ i. when (not (good i)) i) 0 n
+unfoldable pub first_fault : (ℕ → Bool) → ℕ → Option ℕ
+first_fault good n = over None or_else (λ i. when (not (good i)) i) 0 n
 
 -- ---- the refusals' tests, in their order
 
@@ -118,16 +114,16 @@ links_hold m i =
 -- ---- 40 to 42
 
 -- the first polygon at fault, or what the rest says
-unfoldable pub or_fault : (ℕ → Fault) → Found → Soundness → Soundness
-or_fault fault (At i) rest = Broken (fault i)
-or_fault fault Nothing rest = rest
+unfoldable pub or_fault : (ℕ → Fault) → Option ℕ → Result ⊤ Fault → Result ⊤ Fault
+or_fault fault (Some i) rest = Err (fault i)
+or_fault fault None rest = rest
 
 -- "Refusals, in this order: 40 ..; 41 corners, 42 links, .. each with the first polygon at fault": each is looked for in the whole mesh before the next.
 -- "Later asks on meshes give 40 to 42 first"
-unfoldable pub soundness : Handed → Soundness
+unfoldable pub soundness : Handed → Result ⊤ Fault
 soundness m = elim (buffers_hold m) [
-  | true ↦ or_fault BadCorners (first_fault (corners_hold m) (polygon_count m)) (or_fault BadLinks (first_fault (links_hold m) (polygon_count m)) Sound)
-  | false ↦ Broken BadBuffers
+  | true ↦ or_fault BadCorners (first_fault (corners_hold m) (polygon_count m)) (or_fault BadLinks (first_fault (links_hold m) (polygon_count m)) (Ok tt))
+  | false ↦ Err BadBuffers
 ]
 
 -- a fault's number, and its second number: "with 0", "with the first polygon at fault"
@@ -180,4 +176,4 @@ pub record Consistent (m : Handed) : Type 0 where
   pub links : (i : ℕ) → i < polygon_count m → GoodLinks m i
 
 abbrev pub SoundExactly : Type 0
-SoundExactly = (m : Handed) → (soundness m ≡ Sound) ↔ Consistent m
+SoundExactly = (m : Handed) → (soundness m ≡ (Ok tt)) ↔ Consistent m

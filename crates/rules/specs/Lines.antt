@@ -1,12 +1,8 @@
 -- Text as sheets have it: lines ended by LF, cells parted by tabs, decimals without leading zeros. A text is the list of its bytes. Definitions only.
-use Rattle.std.specs.Prelude.{Bool, true, false, not, ◌&&◌, ◌||◌, cond, List, [], ◌∷◌, ◌++◌, ℕ, zero, suc, ◌+◌, ◌-◌, ◌*◌, ◌/◌, ◌%◌, eqb, leb, ltb, ℤ, pos, negsuc, neg_ℤ}
+use Rattle.std.specs.Prelude.{Bool, true, false, not, ◌&&◌, ◌||◌, cond, List, [], ◌∷◌, ◌++◌, ℕ, zero, suc, ◌+◌, ◌-◌, ◌*◌, ◌/◌, ◌%◌, eqb, leb, ltb, ℤ, pos, negsuc, neg_ℤ, Option, Some, None}
 use Prim.Native.Char.{code}
 use Prim.Native.String.{String}
 use Rattle.mem.specs.Packed.{packed}
-use Rattle.rules.specs.declared.Decimal.{Decimal}
-use Rattle.rules.specs.declared.Decimal.TheVariants.{Value, Malformed}
-use Rattle.rules.specs.declared.Signed.{Signed}
-use Rattle.rules.specs.declared.Signed.TheVariants.{Whole, NotWhole}
 
 -- the bytes of a quoted text
 unfoldable pub ascii : String → List ℕ
@@ -80,18 +76,18 @@ value_from v [] = v
 value_from v (c ∷ cs) = value_from (v * 10 + (c - 48)) cs
 
 -- the number that a cell says, if it is a decimal from `least` to `most`
-unfoldable pub decimal_in : ℕ → ℕ → List ℕ → Decimal
+unfoldable pub decimal_in : ℕ → ℕ → List ℕ → Option ℕ
 decimal_in least most cell =
     let v = value_from 0 cell in
-    cond (is_decimal cell && (leb least v && leb v most)) (Value v) Malformed
+    cond (is_decimal cell && (leb least v && leb v most)) (Some v) None
 
 -- the whole number that a cell says: a decimal up to `most`, or `-` and one that is not 0
-unfoldable pub whole_from : (ℕ → ℤ) → Decimal → Signed
-whole_from sign (Value n) = Whole (sign n)
-whole_from sign Malformed = NotWhole
+unfoldable pub whole_from : (ℕ → ℤ) → Option ℕ → Option ℤ
+whole_from sign (Some n) = Some (sign n)
+whole_from sign None = None
 
-unfoldable pub signed_in : ℕ → List ℕ → Signed
-signed_in most [] = NotWhole
+unfoldable pub signed_in : ℕ → List ℕ → Option ℤ
+signed_in most [] = None
 signed_in most (c ∷ cs) = elim (eqb c 45) [
   | true ↦ whole_from (λ n. neg_ℤ (pos n)) (decimal_in 1 most cs)
   | false ↦ whole_from pos (decimal_in 0 most (c ∷ cs))
@@ -113,8 +109,8 @@ numbers_in least [] [] = numbers []
 numbers_in least [] (c ∷ cs) = malformed
 numbers_in least (m ∷ ms) [] = malformed
 numbers_in least (m ∷ ms) (c ∷ cs) = elim (decimal_in least m c) [
-  | Value n ↦ with_number n (numbers_in least ms cs)
-  | Malformed ↦ malformed
+  | Some n ↦ with_number n (numbers_in least ms cs)
+  | None ↦ malformed
 ]
 
 -- the numbers of a line whose first cell is this name

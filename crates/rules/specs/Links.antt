@@ -1,11 +1,9 @@
 -- R6: the sides of the mesh's polygons are linked. Definitions only.
-use Rattle.std.specs.Prelude.{Bool, ◌&&◌, cond, List, [], ◌∷◌, ◌++◌, map, ℕ, eqb, ltb, length, get_or, set, replicate}
+use Rattle.std.specs.Prelude.{Bool, ◌&&◌, cond, List, [], ◌∷◌, ◌++◌, map, ℕ, eqb, ltb, length, get_or, set, replicate, Option, Some, None}
 use Rattle.mem.specs.Loops.{each}
 use Rattle.rules.specs.Lists.{when, or_else, down}
 use Rattle.rules.specs.Mesh.{Polygon, polygon_at, side_start, side_end}
 use Rattle.rules.specs.declared.Edge.{Edge}
-use Rattle.rules.specs.declared.Found.{Found}
-use Rattle.rules.specs.declared.Found.TheVariants.{At, Nothing}
 
 -- "65,535 is none."
 abbrev pub none : ℕ
@@ -30,8 +28,8 @@ unfoldable pub is_free : ℕ → ℕ → Edge → Bool
 is_free low high e = eqb e.low low && (eqb e.high high && eqb e.other e.poly)
 
 -- "the newest record not yet joined"
-unfoldable pub newest : ℕ → ℕ → List Edge → Found
-newest low high es = down Nothing or_else (λ k. when (is_free low high (get_or es k no_edge)) k) (length es)
+unfoldable pub newest : ℕ → ℕ → List Edge → Option ℕ
+newest low high es = down None or_else (λ k. when (is_free low high (get_or es k no_edge)) k) (length es)
 
 -- the record joined to side j of polygon i
 unfoldable pub joined_to : ℕ → ℕ → Edge → Edge
@@ -39,9 +37,9 @@ joined_to i j e = record { low = e.low; high = e.high; poly = e.poly; side = e.s
 
 -- "A side that meets its own polygon stays open.": the newest free record is taken even if it is the polygon's own, and no older one is tried. A record
 -- joined to its own polygon is joined to none: it stays free for a later side, and neither side gets a link
-unfoldable pub join_at : ℕ → ℕ → List Edge → Found → List Edge
-join_at i j es (At k) = set es k (joined_to i j (get_or es k no_edge))
-join_at i j es Nothing = es
+unfoldable pub join_at : ℕ → ℕ → List Edge → Option ℕ → List Edge
+join_at i j es (Some k) = set es k (joined_to i j (get_or es k no_edge))
+join_at i j es None = es
 
 -- "each opposite one, in polygon order, takes the newest record not yet joined to another polygon". A side from a vertex to itself is neither of the two
 unfoldable pub join_side : List Polygon → ℕ → ℕ → List Edge → List Edge

@@ -1,7 +1,5 @@
 -- Words about lists and places that every rule uses. Definitions only.
-use Rattle.std.specs.Prelude.{Bool, cond, List, [], ◌∷◌, ◌++◌, ℕ, zero, suc, ◌+◌, ◌-◌, ltb, eqb, leb, length, take, drop, get_or, set}
-use Rattle.rules.specs.declared.Found.{Found}
-use Rattle.rules.specs.declared.Found.TheVariants.{At, Nothing}
+use Rattle.std.specs.Prelude.{Bool, cond, List, [], ◌∷◌, ◌++◌, ℕ, zero, suc, ◌+◌, ◌-◌, ltb, eqb, leb, length, take, drop, get_or, set, Option, Some, None}
 
 -- `next` and `prev` of math.rs, the places after and before i in a ring of n. There they are (i + 1) % n and (i + n - 1) % n, which for a place
 -- i below n is what stands here; no rule asks for another (`Sentences`: `NextIsRemainder`, `PrevIsRemainder`)
@@ -16,13 +14,13 @@ unfoldable pub apart : ℕ → ℕ → ℕ
 apart a b = (a - b) + (b - a)
 
 -- the place k if the test holds
-unfoldable pub when : Bool → ℕ → Found
-when ok k = cond ok (At k) Nothing
+unfoldable pub when : Bool → ℕ → Option ℕ
+when ok k = cond ok (Some k) None
 
 -- the first answer, or else the second
-unfoldable pub or_else : Found → Found → Found
-or_else (At k) g = At k
-or_else Nothing g = g
+unfoldable pub or_else : Option ℕ → Option ℕ → Option ℕ
+or_else (Some k) g = Some k
+or_else None g = g
 
 -- `down z op f n`: `f (n - 1)`, `f (n - 2)`, .. down to `f 0`, joined by op, with z at the end (mem's `over` goes up)
 module _ {A : Type 0} (z : A) (op : A → A → A) (f : ℕ → A) where

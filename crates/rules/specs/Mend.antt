@@ -1,6 +1,6 @@
 -- Request 12: a contour is mended, which takes doubled points and spikes out of it. "It runs before the build only when asked." Definitions, and what is
 -- proved of them.
-use Rattle.std.specs.Prelude.{◌≡◌, Bool, true, false, ◌||◌, cond, ◌⊎◌, List, [], ◌∷◌, ◌++◌, map, ℕ, zero, suc, ◌+◌, ◌-◌, ◌≤◌, ◌<◌, eqb, ltb, length, get_or, set}
+use Rattle.std.specs.Prelude.{◌≡◌, Bool, true, false, ◌||◌, cond, ◌⊎◌, List, [], ◌∷◌, ◌++◌, map, ℕ, zero, suc, ◌+◌, ◌-◌, ◌≤◌, ◌<◌, eqb, ltb, length, get_or, set, Option, Some, None}
 use Rattle.mem.specs.Loops.{over}
 use Rattle.mem.specs.Tab.{tab}
 use Rattle.rules.specs.Lists.{next, when, or_else, without, count}
@@ -8,8 +8,6 @@ use Rattle.rules.specs.Plane.{origin, on_plane, area, vequal}
 use Rattle.rules.specs.Job.{vertex_at, flag_at}
 use Rattle.rules.specs.declared.Point.{Point}
 use Rattle.rules.specs.declared.Vertex.{Vertex}
-use Rattle.rules.specs.declared.Found.{Found}
-use Rattle.rules.specs.declared.Found.TheVariants.{At, Nothing}
 
 -- a point of a trace: "its original number", x, y and z, and its flag
 pub record Traced : Type 0 where
@@ -45,8 +43,8 @@ unfoldable pub is_at_fault : List Point → ℕ → Bool
 is_at_fault l i = is_doubled l i || is_spike l i
 
 -- "Take the lowest place that applies"
-unfoldable pub lowest_fault : List Point → Found
-lowest_fault l = over Nothing or_else (λ i. when (is_at_fault l i) i) 0 (length l)
+unfoldable pub lowest_fault : List Point → Option ℕ
+lowest_fault l = over None or_else (λ i. when (is_at_fault l i) i) 0 (length l)
 
 -- ---- what is lost
 
@@ -89,8 +87,8 @@ mend_loop zero m = m
 mend_loop (suc f) m = elim (ltb (length m.points) 3) [
   | true ↦ m
   | false ↦ elim (lowest_fault (trace_places m.points)) [
-    | At i ↦ mend_loop f (mend_at i m)
-    | Nothing ↦ m
+    | Some i ↦ mend_loop f (mend_at i m)
+    | None ↦ m
   ]
 ]
 

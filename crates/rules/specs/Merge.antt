@@ -1,5 +1,5 @@
 -- R4: polygons of one contour or one hole are merged. Definitions only.
-use Rattle.std.specs.Prelude.{Bool, true, false, ◌&&◌, ◌||◌, cond, List, ◌++◌, ℕ, zero, suc, ◌+◌, ◌-◌, eqb, leb, ltb, length, set}
+use Rattle.std.specs.Prelude.{Bool, true, false, ◌&&◌, ◌||◌, cond, List, ◌++◌, ℕ, zero, suc, ◌+◌, ◌-◌, eqb, leb, ltb, length, set, Option, Some, None}
 use Rattle.mem.specs.Loops.{over, each}
 use Rattle.mem.specs.Tab.{tab}
 use Rattle.rules.specs.Lists.{down, swap_remove}
@@ -7,8 +7,6 @@ use Rattle.rules.specs.Plane.{is_left, squared}
 use Rattle.rules.specs.Mesh.{Polygon, no_polygon, polygon_at, side_start, side_end, corner_round, place_of}
 use Rattle.rules.specs.declared.Vertex.{Vertex}
 use Rattle.rules.specs.declared.Pair.{Pair}
-use Rattle.rules.specs.declared.Shared.{Shared}
-use Rattle.rules.specs.declared.Shared.TheVariants.{Sides, NoSide}
 
 -- ---- the shared side of two polygons, lists of corners a and b
 
@@ -24,20 +22,20 @@ is_opposite a b i j = eqb (side_start a i) (side_end b j) && eqb (side_end a i) 
 unfoldable pub is_equal : List ℕ → List ℕ → ℕ → ℕ → Bool
 is_equal a b i j = is_along a b i j || is_opposite a b i j
 
-unfoldable pub sides_at : List ℕ → List ℕ → ℕ → ℕ → Shared
-sides_at a b i j = cond (is_equal a b i j) (Sides i j) NoSide
+unfoldable pub sides_at : List ℕ → List ℕ → ℕ → ℕ → Option (ℕ × ℕ)
+sides_at a b i j = cond (is_equal a b i j) (Some (i, j)) None
 
-unfoldable pub or_sides : Shared → Shared → Shared
-or_sides (Sides i j) s = Sides i j
-or_sides NoSide s = s
+unfoldable pub or_sides : Option (ℕ × ℕ) → Option (ℕ × ℕ) → Option (ℕ × ℕ)
+or_sides (Some (i, j)) s = Some (i, j)
+or_sides None s = s
 
 -- side i of a, and "the first such in b"
-unfoldable pub shared_by : List ℕ → List ℕ → ℕ → Shared
-shared_by a b i = over NoSide or_sides (sides_at a b i) 0 (length b)
+unfoldable pub shared_by : List ℕ → List ℕ → ℕ → Option (ℕ × ℕ)
+shared_by a b i = over None or_sides (sides_at a b i) 0 (length b)
 
 -- "the shared side is the last of a with an equal one in b, the first such in b"
-unfoldable pub shared_side : List ℕ → List ℕ → Shared
-shared_side a b = down NoSide or_sides (shared_by a b) (length a)
+unfoldable pub shared_side : List ℕ → List ℕ → Option (ℕ × ℕ)
+shared_side a b = down None or_sides (shared_by a b) (length a)
 
 -- ---- the value of a pair
 
@@ -59,9 +57,9 @@ abbrev pub no_pair : Pair
 no_pair = record { length = 0; a = 0; b = 0; ea = 0; eb = 0 }
 
 -- polygons p and q at the sides that they share, with the squared length of side i of p; none where they may not be joined
-unfoldable pub pair_at : List Vertex → List Polygon → ℕ → ℕ → Shared → Pair
-pair_at vs ps p q NoSide = no_pair
-pair_at vs ps p q (Sides i j) =
+unfoldable pub pair_at : List Vertex → List Polygon → ℕ → ℕ → Option (ℕ × ℕ) → Pair
+pair_at vs ps p q None = no_pair
+pair_at vs ps p q (Some (i, j)) =
     let a = (polygon_at ps p).corners in
     let b = (polygon_at ps q).corners in
     cond (may_join vs a b i j)

@@ -1,6 +1,6 @@
 -- Request 11, binary STL: the file as a list of bytes, a function of the mesh and its scale; and what is read from a list of bytes. Bytes and facets count
 -- from 0. Definitions; at the end what is proved of them, in crate `laws`.
-use Rattle.std.specs.Prelude.{◌≡◌, Bool, false, not, ◌&&◌, ◌||◌, cond, List, [], ◌∷◌, ◌++◌, ℕ, ◌+◌, ◌-◌, ◌*◌, ◌/◌, ◌%◌, ◌≤◌, ◌<◌, pos, leb, ltb, eqb, length, get_or, replicate, Float}
+use Rattle.std.specs.Prelude.{◌≡◌, Bool, false, not, ◌&&◌, ◌||◌, cond, List, [], ◌∷◌, ◌++◌, ℕ, ◌+◌, ◌-◌, ◌*◌, ◌/◌, ◌%◌, ◌≤◌, ◌<◌, pos, leb, ltb, eqb, length, get_or, replicate, Float, Option, Some, None}
 use Rattle.std.specs.Float.Ieee as Ieee
 use Rattle.std.specs.Float.{nan, inf, fin, binary32}
 use Rattle.mem.specs.Slice.{view}
@@ -12,8 +12,6 @@ use Rattle.rules.specs.Weld.{no_vertex}
 use Rattle.rules.specs.Mesh.{Polygon, polygon_at}
 use Rattle.rules.specs.Units.{size_in, millimetres}
 use Rattle.rules.specs.declared.Vertex.{Vertex}
-use Rattle.rules.specs.declared.Found.{Found}
-use Rattle.rules.specs.declared.Found.TheVariants.{At, Nothing}
 
 -- ---- numbers in bytes
 
@@ -119,8 +117,8 @@ unfoldable pub wrong_at : List ℕ → ℕ → Bool
 wrong_at bs i = zero_due i && not (eqb (get_or bs i 0) 0)
 
 -- "73 nonzero where zero is due, with the first byte"
-unfoldable pub first_wrong : List ℕ → Found
-first_wrong bs = over Nothing or_else (λ i. when (wrong_at bs i) i) 0 (length bs)
+unfoldable pub first_wrong : List ℕ → Option ℕ
+first_wrong bs = over None or_else (λ i. when (wrong_at bs i) i) 0 (length bs)
 
 -- the nine patterns in a facet's 50 bytes, any of them
 unfoldable pub facet_in : List ℕ → List ℕ
@@ -129,9 +127,9 @@ facet_in bs = blocks from_little bs 12 4 9
 unfoldable pub facets_in : List ℕ → List (List ℕ)
 facets_in bs = blocks facet_in bs 84 50 (count_in bs)
 
-unfoldable pub after_zeros : List ℕ → Found → Reading
-after_zeros bs (At i) = not_zero i
-after_zeros bs Nothing = facets_read (facets_in bs)
+unfoldable pub after_zeros : List ℕ → Option ℕ → Reading
+after_zeros bs (Some i) = not_zero i
+after_zeros bs None = facets_read (facets_in bs)
 
 -- "72 before 73"
 unfoldable pub reading : List ℕ → Reading

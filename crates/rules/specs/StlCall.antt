@@ -1,12 +1,11 @@
 -- Request 11, the calls: what writing and reading a binary STL answer, refusals 70 to 73 in their order, and every lent word at exit. Definitions; at the end
 -- what is proved of them, in crate `laws`.
-use Rattle.std.specs.Prelude.{◌≡◌, true, cond, ◌↔◌, List, [], ◌∷◌, ℕ, ◌*◌, ◌<◌, leb, length}
+use Rattle.std.specs.Prelude.{◌≡◌, true, cond, ◌↔◌, List, [], ◌∷◌, ℕ, ◌*◌, ◌<◌, leb, length, Ok, Err}
 use Rattle.mem.specs.Slice.{splice}
 use Rattle.mem.specs.Packed.{packed}
 use Rattle.rules.specs.Handed.{Handed, mesh_in, soundness, fault_number, fault_second}
 use Rattle.rules.specs.Stl.{Scale, size_of, height_of, is_scale, facets_of, facet_count, file_of, file_length}
 use Rattle.rules.specs.Stl.{Reading, wrong_length, not_zero, facets_read, facets_in, reading}
-use Rattle.rules.specs.declared.Soundness.TheVariants.{Sound, Broken}
 use Rattle.rules.specs.declared.StlReply.{StlReply}
 use Rattle.rules.specs.declared.StlReply.TheVariants.{Written, BadMesh, BadScale, ShortFile}
 use Rattle.rules.specs.declared.UnstlReply.{UnstlReply}
@@ -31,8 +30,8 @@ room_reply n room = cond (leb (file_length n) room) (Written n) ShortFile
 -- "Later asks on meshes give 40 to 42 first"; "70 .., before 71"
 unfoldable pub stl_reply : Handed → Scale → ℕ → StlReply
 stl_reply m s room = elim (soundness m) [
-  | Broken f ↦ BadMesh f
-  | Sound ↦ cond (is_scale s) (room_reply (mesh_count m) room) BadScale
+  | Err f ↦ BadMesh f
+  | Ok _ ↦ cond (is_scale s) (room_reply (mesh_count m) room) BadScale
 ]
 
 -- the lent bytes at exit: the file stands at their beginning, and the others are as they were; "no later refusal writes"
@@ -110,7 +109,7 @@ unstl_words r = unstl_number r ∷ unstl_second r ∷ 0 ∷ []
 
 -- "71 room, exactly when the file needs more bytes than lent"
 abbrev pub ShortExactly : Type 0
-ShortExactly = (m : Handed) (s : Scale) (room : ℕ) → soundness m ≡ Sound → is_scale s ≡ true → (stl_reply m s room ≡ ShortFile) ↔ (room < length (mesh_file m s))
+ShortExactly = (m : Handed) (s : Scale) (room : ℕ) → soundness m ≡ (Ok tt) → is_scale s ≡ true → (stl_reply m s room ≡ ShortFile) ↔ (room < length (mesh_file m s))
 
 -- what was written is read again, from just the bytes of the file
 abbrev pub WrittenReadsBack : Type 0

@@ -1,6 +1,6 @@
 -- Request 11 at the terminal: the STL of a job sheet, and a file's facets as a text, each a function of the bytes that are read. Definitions, and two
 -- statements.
-use Rattle.std.specs.Prelude.{◌≡◌, Bool, true, false, cond, List, [], ◌∷◌, ◌++◌, ℕ, ◌+◌, ◌-◌, ◌*◌, ◌/◌, ◌%◌, ◌^◌, ◌≤◌, eqb, leb, ltb, length, drop, get_or}
+use Rattle.std.specs.Prelude.{◌≡◌, Bool, true, false, cond, List, [], ◌∷◌, ◌++◌, ℕ, ◌+◌, ◌-◌, ◌*◌, ◌/◌, ◌%◌, ◌^◌, ◌≤◌, eqb, leb, ltb, length, drop, get_or, Ok}
 use Rattle.mem.specs.Loops.{over}
 use Rattle.mem.specs.Tab.{tab}
 use Rattle.mem.specs.Packed.{packed}
@@ -18,7 +18,6 @@ use Rattle.rules.specs.Units.{thousandths}
 use Rattle.rules.specs.Sheet.{Sheet, bytes_most, cell_least, cell_most, read_sheet, outcome_of, refused_text, unit_line, text_by}
 use Rattle.rules.specs.Stl.{Scale, size_of, height_of, is_scale, facets_of, facet_count, file_of, Reading, wrong_length, not_zero, facets_read, reading, no_facet}
 use Rattle.rules.specs.StlCall.{mesh_count, mesh_file}
-use Rattle.rules.specs.declared.Soundness.TheVariants.{Sound}
 
 -- ---- `./mesh --stl`: the file of a sheet's mesh
 
@@ -52,7 +51,7 @@ CellsAreLengths = (inches : Bool) (size height : ℕ) → cell_least ≤ size �
 abbrev pub BuiltIsCarved : Type 0
 BuiltIsCarved = (j : Job) (b : Lent) (m : Mesh) (ls : List (List ℕ)) (log : List Removal) (s : Scale) → outcome j b ≡ built m ls log
     → let h = handed_on j.nvp (exits j b) (length m.polygons) (length m.vertices) in
-    (soundness h ≡ Sound) × (mesh_count h ≡ facet_count m.polygons) × (mesh_file h s ≡ carved s m)
+    (soundness h ≡ (Ok tt)) × (mesh_count h ≡ facet_count m.polygons) × (mesh_file h s ≡ carved s m)
 
 -- ---- a coordinate as it is printed: millimetres with four decimals
 

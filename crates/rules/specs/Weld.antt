@@ -1,10 +1,8 @@
 -- R3: the vertices of a contour are welded to those of the mesh. Definitions only.
-use Rattle.std.specs.Prelude.{Bool, ◌&&◌, cond, List, [], ◌∷◌, ◌++◌, ℕ, ◌+◌, ◌*◌, ◌%◌, ◌^◌, eqb, leb, length, get_or, set}
+use Rattle.std.specs.Prelude.{Bool, ◌&&◌, cond, List, [], ◌∷◌, ◌++◌, ℕ, ◌+◌, ◌*◌, ◌%◌, ◌^◌, eqb, leb, length, get_or, set, Option, Some, None}
 use Rattle.mem.specs.Loops.{each}
 use Rattle.rules.specs.Lists.{apart, when, or_else, down}
 use Rattle.rules.specs.declared.Vertex.{Vertex}
-use Rattle.rules.specs.declared.Found.{Found}
-use Rattle.rules.specs.declared.Found.TheVariants.{At, Nothing}
 
 abbrev pub no_vertex : Vertex
 no_vertex = record { x = 0; y = 0; z = 0 }
@@ -14,13 +12,13 @@ unfoldable pub is_same : ℕ → Vertex → Vertex → Bool
 is_same height v w = eqb v.x w.x && (leb (apart v.y w.y) height && eqb v.z w.z)
 
 -- "the highest-numbered one" that is the same as v, of those below n
-unfoldable pub highest_below : ℕ → List Vertex → Vertex → ℕ → Found
-highest_below height vs v n = down Nothing or_else (λ k. when (is_same height (get_or vs k no_vertex) v) k) n
+unfoldable pub highest_below : ℕ → List Vertex → Vertex → ℕ → Option ℕ
+highest_below height vs v n = down None or_else (λ k. when (is_same height (get_or vs k no_vertex) v) k) n
 
 -- "A vertex takes the highest-numbered one .., else a new number.": the mesh's vertices are vs, and the next new number is how many there are
-unfoldable pub number_or : ℕ → Found → ℕ
-number_or new (At k) = k
-number_or new Nothing = new
+unfoldable pub number_or : ℕ → Option ℕ → ℕ
+number_or new (Some k) = k
+number_or new None = new
 
 unfoldable pub number_of : ℕ → List Vertex → Vertex → ℕ
 number_of height vs v = number_or (length vs) (highest_below height vs v (length vs))

@@ -19,13 +19,6 @@ pub struct Vertex {
 // How many numbers a stored vertex has: x, y and z. (`vertex_stride` of the rules' `Checks`)
 pub const VERTEX_STRIDE: usize = 3;
 
-// The answer of a search: a place, or none.
-#[derive(Clone, Copy)]
-pub enum Found {
-    At(usize),
-    Nothing,
-}
-
 // R1: which of the two diagonals is meant.
 #[derive(Clone, Copy)]
 pub enum Kind {
@@ -39,13 +32,6 @@ pub struct Ear {
     pub any: bool,
     pub key: u32,
     pub at: usize,
-}
-
-// R4: the side of a and the side of b that two polygons share, or none.
-#[derive(Clone, Copy)]
-pub enum Shared {
-    Sides(usize, usize),
-    NoSide,
 }
 
 // R4: polygons a and b, to be joined at side ea of a and eb of b, of this squared length; length 0 says that they can't be.
@@ -146,13 +132,6 @@ pub struct Answer {
     pub header: Header,
 }
 
-// A cell of a sheet that is read as a decimal: the number, or none.
-#[derive(Clone, Copy)]
-pub enum Decimal {
-    Value(u64),
-    Malformed,
-}
-
 // What a mending answers: how many points were lost and how many are kept; or one of 80, 2, 82 and 81.
 #[derive(Clone, Copy)]
 pub enum MendReply {
@@ -172,13 +151,6 @@ pub enum Fault {
     BadLinks(u64),
 }
 
-// Whether a mesh that is handed in is sound: refusals 40 to 42.
-#[derive(Clone, Copy)]
-pub enum Soundness {
-    Sound,
-    Broken(Fault),
-}
-
 // What the checker says of a mesh: it is accepted, or the first of refusals 40 to 44, in the order of their numbers.
 #[derive(Clone, Copy)]
 pub enum Verdict {
@@ -186,13 +158,6 @@ pub enum Verdict {
     Unsound(Fault),
     BadPortals(u64),
     BadArea,
-}
-
-// A cell that is read as a whole number with its sign: the number, or none.
-#[derive(Clone, Copy)]
-pub enum Signed {
-    Whole(i64),
-    NotWhole,
 }
 
 // What writing a binary STL answers: how many facets were written; or what is wrong with the mesh (40 to 42); or 70, a cell

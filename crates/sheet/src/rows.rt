@@ -96,11 +96,9 @@ pub fn put_vertices(out: &mut [u8], at: usize, k: usize, vertices: &[u16]) -> us
     ensures { Printed (vertex_rows vertices.now k) out.old out.new at result }
 {
     let mut to = at;
-    let mut i = 0;
-    while i < k {
+    for i in 0..k {
         let from = i * VERTEX_STRIDE;
         to = put_line16(out, to, b"v", &vertices[from..from + VERTEX_STRIDE]);
-        i += 1;
     }
     to
 }
@@ -140,8 +138,7 @@ pub fn put_polygons(
     ensures { Printed (polygon_rows nvp n polygons.now neighbours.now regions.now codes.now) out.old out.new at result }
 {
     let mut to = at;
-    let mut i = 0;
-    while i < n {
+    for i in 0..n {
         let from = i * nvp;
         let used = count_corners(&polygons[from..from + nvp]);
         to = put_polygon(
@@ -152,7 +149,6 @@ pub fn put_polygons(
             &polygons[from..from + used],
             &neighbours[from..from + used],
         );
-        i += 1;
     }
     to
 }

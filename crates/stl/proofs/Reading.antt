@@ -1,4 +1,5 @@
 -- A file is read: what is known of one that has the right length, and each way out with its reply and the words that it leaves. Assumes nothing.
+use Rattle.std.specs.Prelude.{Option, Some, None}
 use mathlib.Core.Path.{◌≡◌, refl, sym, ap, ◌∙◌}
 use mathlib.Core.Bool.{Bool, true, false}
 use mathlib.Core.List.{List}
@@ -10,8 +11,6 @@ use Rattle.ints.specs.Bools.{and_left, and_right}
 use Rattle.mem.specs.Slice.{splice}
 use Rattle.rules.specs.Stl.{file_length, facets_read, count_in, right_length, first_wrong, facets_in, after_zeros, reading}
 use Rattle.rules.specs.StlCall.{point_words, unstl_answer, unstl_reply, unstl_left, unstl_exit}
-use Rattle.rules.specs.declared.Found.{Found}
-use Rattle.rules.specs.declared.Found.TheVariants.{At, Nothing}
 use Rattle.rules.specs.declared.UnstlReply.{UnstlReply}
 use Rattle.rules.specs.declared.UnstlReply.TheVariants.{Taken, BadLength, NotZero, ShortPoints}
 use Rattle.laws.proofs.StlWords.{facets_in_long}
@@ -56,7 +55,7 @@ module _ (bs : List ℕ) where
     unfolding unstl_exit
     left_so e f = (e, f ∙ ap (unstl_left (point_words (facets_in bs)) words) e)
 
-    pub read_whole : {t : Bool} {f : Found} → t ≡ right_length bs → t ≡ true → f ≡ first_wrong bs → f ≡ Nothing
+    pub read_whole : {t : Bool} {f : Option ℕ} → t ≡ right_length bs → t ≡ true → f ≡ first_wrong bs → f ≡ None
         → (r ≡ unstl_answer (facets_read (facets_in bs)) (length words)) × (x ≡ unstl_left (point_words (facets_in bs)) words r)
         → (r ≡ unstl_reply bs (length words)) × (x ≡ unstl_exit bs words)
     unfolding unstl_reply reading after_zeros
@@ -67,7 +66,7 @@ module _ (bs : List ℕ) where
     unfolding unstl_reply unstl_answer reading unstl_left
     read_bad_length e y = left_so words (rw (sym e ∙ y) refl) refl
 
-    pub read_not_zero : {t : Bool} {f : Found} {i : ℕ} → t ≡ right_length bs → t ≡ true → f ≡ first_wrong bs → f ≡ At i
+    pub read_not_zero : {t : Bool} {f : Option ℕ} {i : ℕ} → t ≡ right_length bs → t ≡ true → f ≡ first_wrong bs → f ≡ Some i
         → (NotZero i ≡ unstl_reply bs (length words)) × (words ≡ unstl_exit bs words)
     unfolding unstl_reply unstl_answer reading after_zeros unstl_left
     read_not_zero e y g z = left_so words (rw (sym e ∙ y, sym g ∙ z) refl) refl

@@ -1,4 +1,5 @@
 -- A mesh becomes a file: each way out with its reply and the bytes that it leaves, and what a sound mesh gives those who write it. Assumes nothing.
+use Rattle.std.specs.Prelude.{Result, Ok, Err, ⊤}
 use mathlib.Core.Path.{◌≡◌, refl, sym, ap, ◌∙◌}
 use mathlib.Core.Bool.{Bool, true, false, ◌&&◌, cond}
 use mathlib.Core.List.{List, ◌++◌}
@@ -17,8 +18,6 @@ use Rattle.rules.specs.Handed.{Handed, vertex_count, polygon_count, mesh_in, cor
 use Rattle.rules.specs.Stl.{Scale, size_of, height_of, is_length, is_scale, facets_of, facet_count, little, file_of, file_length}
 use Rattle.rules.specs.StlCall.{mesh_facets, mesh_count, mesh_file, room_reply, stl_reply, stl_left, stl_exit}
 use Rattle.rules.specs.declared.Fault.{Fault}
-use Rattle.rules.specs.declared.Soundness.{Soundness}
-use Rattle.rules.specs.declared.Soundness.TheVariants.{Sound, Broken}
 use Rattle.rules.specs.declared.StlReply.{StlReply}
 use Rattle.rules.specs.declared.StlReply.TheVariants.{Written, BadMesh, BadScale, ShortFile}
 use Rattle.laws.proofs.Handed.{sound_exactly}
@@ -120,8 +119,8 @@ module _ (nvp : ℕ) (vs ps ls : List ℕ) where
   file_is s = refl
 
   -- t is what 40 to 42 say of it
-  module _ {t : Soundness} (t_is : t ≡ soundness mesh) where
-    pub mesh_sound : t ≡ Sound → MeshSound nvp vs ps
+  module _ {t : Result ⊤ Fault} (t_is : t ≡ soundness mesh) where
+    pub mesh_sound : t ≡ (Ok tt) → MeshSound nvp vs ps
     unfolding polygon_count vertex_count
     mesh_sound e =
         let c : Consistent mesh = (sound_exactly mesh).0 (sym t_is ∙ e) in
@@ -146,7 +145,7 @@ module _ (nvp : ℕ) (vs ps ls : List ℕ) where
       unfolding stl_exit
       left_so e f = (e, f ∙ ap (stl_left (mesh_file mesh s) file) e)
 
-      pub sound_written : {r : StlReply} {x : List ℕ} → t ≡ Sound
+      pub sound_written : {r : StlReply} {x : List ℕ} → t ≡ (Ok tt)
           → (r ≡ cond (is_scale s) (room_reply (count_of nvp ps) (length file)) BadScale)
           × (x ≡ stl_left (file_in (size_of s) (height_of s) nvp vs ps) file r)
           → (r ≡ stl_reply mesh s (length file)) × (x ≡ stl_exit mesh s file)
@@ -156,6 +155,6 @@ module _ (nvp : ℕ) (vs ps ls : List ℕ) where
           ∙ sym (sound_reply mesh s (length file) (sym t_is ∙ e)))
           (p.1 ∙ ap (λ (l : List ℕ). stl_left l file r) (sym (file_is s)))
 
-      pub broken_refused : {f : Fault} → t ≡ Broken f → (BadMesh f ≡ stl_reply mesh s (length file)) × (file ≡ stl_exit mesh s file)
+      pub broken_refused : {f : Fault} → t ≡ Err f → (BadMesh f ≡ stl_reply mesh s (length file)) × (file ≡ stl_exit mesh s file)
       unfolding stl_left
       broken_refused {f} e = left_so (sym (broken_reply mesh s (length file) f (sym t_is ∙ e))) refl

@@ -34,9 +34,7 @@ pub fn put_zeros(out: &mut [u8], at: usize, n: usize)
     requires { at + n ≤ length out.old }
     ensures { out.new ≡ splice out.old at (replicate n 0) }
 {
-    let mut i = 0;
-    while i < n {
+    for i in 0..n {
         out[at + i] = 0;
-        i += 1;
     }
 }

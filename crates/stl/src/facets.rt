@@ -27,10 +27,8 @@ pub fn get_facet(file: &[u8], at: usize, words: &mut [u32], to: usize)
     requires to_in_bounds { to + 9 ≤ length words.old }
     ensures { words.new ≡ splice words.old to (facet_in (view file.now at 50)) }
 {
-    let mut i = 0;
-    while i < FACET_WORDS {
+    for i in 0..FACET_WORDS {
         words[to + i] = get_u32(file, at + 12 + i * 4);
-        i += 1;
     }
 }
 
@@ -41,9 +39,7 @@ pub fn get_facets(file: &[u8], n: usize, words: &mut [u32])
     requires n_in_bounds_2 { n * 9 ≤ length words.old }
     ensures { words.new ≡ splice words.old 0 (point_words (facets_in file.now)) }
 {
-    let mut k = 0;
-    while k < n {
+    for k in 0..n {
         get_facet(file, FRONT_BYTES + k * FACET_BYTES, words, k * FACET_WORDS);
-        k += 1;
     }
 }

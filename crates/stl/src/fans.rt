@@ -15,11 +15,9 @@ pub fn count_facets(nvp: usize, np: usize, polygons: &[u16]) -> usize
     ensures { result ≡ facet_count (polygons_in nvp np polygons.now) }
 {
     let mut n = 0;
-    let mut i = 0;
-    while i < np {
+    for i in 0..np {
         let from = i * nvp;
         n += count_corners(&polygons[from..from + nvp]) - 2;
-        i += 1;
     }
     n
 }
@@ -38,13 +36,11 @@ fn put_fan(
 {
     let first = vertex_at(vertices, corners[0]);
     let mut to = at;
-    let mut k = 2;
-    while k < corners.len() {
+    for k in 2..corners.len() {
         let b = vertex_at(vertices, corners[k - 1]);
         let c = vertex_at(vertices, corners[k]);
         put_facet(out, to, first, b, c, size, height);
         to += FACET_BYTES;
-        k += 1;
     }
     to
 }
@@ -64,12 +60,10 @@ pub fn put_facets(
     ensures { Printed (facets_bytes size height nvp np vertices.now polygons.now) out.old out.new at result }
 {
     let mut to = at;
-    let mut i = 0;
-    while i < np {
+    for i in 0..np {
         let from = i * nvp;
         let c = count_corners(&polygons[from..from + nvp]);
         to = put_fan(out, to, size, height, vertices, &polygons[from..from + c]);
-        i += 1;
     }
     to
 }

@@ -7,7 +7,7 @@ use crate::bytes::get_u32;
 use crate::facets::{FACET_WORDS, get_facets, right_length};
 use crate::header::COUNT_AT;
 use crate::zeros::first_wrong;
-use rules::{Found, UnstlReply};
+use rules::UnstlReply;
 
 // The facets of a file that has passed 72 and 73; or 71.
 fn take_facets(file: &[u8], words: &mut [u32]) -> UnstlReply
@@ -31,8 +31,8 @@ pub fn read_stl(file: &[u8], words: &mut [u32]) -> UnstlReply
 {
     if right_length(file) {
         return match first_wrong(file) {
-            Found::At(i) => UnstlReply::NotZero(i as u64),
-            Found::Nothing => take_facets(file, words),
+            Some(i) => UnstlReply::NotZero(i as u64),
+            None => take_facets(file, words),
         };
     }
     UnstlReply::BadLength

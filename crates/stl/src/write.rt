@@ -10,7 +10,7 @@ use crate::fans::{count_facets, put_facets};
 use crate::header::{FACET_BYTES, FRONT_BYTES, put_header};
 use crate::scale::{in_millimetres, is_length};
 use checker::check::soundness_of;
-use rules::{Soundness, StlReply};
+use rules::StlReply;
 
 // The file of a sound mesh whose size and height, in millimetres, are lengths; or 71.
 fn put_file(
@@ -78,9 +78,9 @@ pub fn write_stl(
 {
     let sound = soundness_of(nvp, vertices, polygons, links);
     match sound {
-        Soundness::Sound => {
+        Ok(()) => {
             write_sound(nvp as usize, inches, size, height, vertices, polygons, file)
         }
-        Soundness::Broken(fault) => StlReply::BadMesh(fault),
+        Err(fault) => StlReply::BadMesh(fault),
     }
 }

@@ -2,7 +2,6 @@
 ghost use Rattle.std.specs.Prelude.{◌≡◌, ◌<◌, length};
 ghost use Rattle.rules.specs.Stl.{zero_due, wrong_at, first_wrong};
 
-use rules::Found;
 
 // Whether byte i of a file is to be zero.
 fn zero_due(i: usize) -> bool
@@ -33,15 +32,13 @@ fn wrong_at(file: &[u8], i: usize) -> bool
 }
 
 // The first byte that is not zero where zero is due.
-pub fn first_wrong(file: &[u8]) -> Found
+pub fn first_wrong(file: &[u8]) -> Option<usize>
     ensures { result ≡ first_wrong file.now }
 {
-    let mut i = 0;
-    while i < file.len() {
+    for i in 0..file.len() {
         if wrong_at(file, i) {
-            return Found::At(i);
+            return Some(i);
         }
-        i += 1;
     }
-    Found::Nothing
+    None
 }

@@ -2,6 +2,7 @@
 -- Assumes nothing.
 -- Key: `file_fits`, `text_short`; `file_printed`, `mesh_refused`, `scale_refused`, `room_refused`: what stands in the output; `sound_written`: what the
 -- rules say of a mesh that was built.
+use Rattle.std.specs.Prelude.{Ok}
 use mathlib.Core.Path.{◌≡◌, refl, sym, ap, ◌∙◌}
 use mathlib.Core.Bool.{Bool, true, false}
 use mathlib.Core.List.{List}
@@ -20,7 +21,6 @@ use Rattle.rules.specs.Stl.{Scale, is_scale, facet_count, file_length}
 use Rattle.rules.specs.StlCall.{mesh_count, mesh_file, room_reply, stl_reply, stl_left, stl_exit}
 use Rattle.rules.specs.StlText.{scale_of, carved}
 use Rattle.rules.specs.declared.Fault.{Fault}
-use Rattle.rules.specs.declared.Soundness.TheVariants.{Sound}
 use Rattle.rules.specs.declared.StlReply.{StlReply}
 use Rattle.rules.specs.declared.StlReply.TheVariants.{Written, BadMesh, BadScale, ShortFile}
 use Rattle.laws.proofs.StlCall.{sound_reply, fits_written, mesh_file_long, written_sound}
@@ -112,7 +112,7 @@ module _ (m : Handed) (s : Scale) (v : List ℕ) {q : StlReply} {w : List ℕ} (
 
 -- ---- a sound mesh whose file has room
 
-pub sound_written : (h : Handed) (s : Scale) (m : Mesh) (room : ℕ) → soundness h ≡ Sound → mesh_count h ≡ facet_count m.polygons → mesh_file h s ≡ carved s m
+pub sound_written : (h : Handed) (s : Scale) (m : Mesh) (room : ℕ) → soundness h ≡ (Ok tt) → mesh_count h ≡ facet_count m.polygons → mesh_file h s ≡ carved s m
     → 84 + facet_count m.polygons * 50 ≤ room
     → elim (is_scale s) [ true ↦ carved s m | false ↦ refused_text 70 0 ] ≡ written_text (mesh_file h s) (stl_reply h s room)
 unfolding file_length written_text

@@ -15,12 +15,10 @@ fn put_places(vertices: &[u16], corners: &[u16], pts: &mut [u32])
     requires { PlacesReady vertices.now corners.now pts.old }
     ensures { pts.new ≡ splice pts.old 0 (packed place_words (places_of vertices.now corners.now)) }
 {
-    let mut c = 0;
-    while c < corners.len() {
+    for c in 0..corners.len() {
         let v = corners[c] as usize * VERTEX_STRIDE;
         pts[c * 2] = vertices[v] as u32;
         pts[c * 2 + 1] = vertices[v + 2] as u32;
-        c += 1;
     }
 }
 
@@ -40,12 +38,10 @@ pub fn mesh_area(nvp: usize, n: usize, k: usize, vertices: &[u16], polygons: &[u
     ensures { result ≡ stored_area (stored_in nvp n k vertices.now polygons.now) }
 {
     let mut sum = 0i64;
-    let mut i = 0;
-    while i < n {
+    for i in 0..n {
         let from = i * nvp;
         let c = count_corners(&polygons[from..from + nvp]);
         sum += polygon_area(vertices, &polygons[from..from + c]);
-        i += 1;
     }
     sum
 }

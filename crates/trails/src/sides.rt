@@ -20,12 +20,10 @@ pub fn is_held(work: &[u32], o: usize, np: usize, i: usize, rem: u32) -> bool
 {
     let at = o + i * POLYGON_SIZE;
     let n = count_from(work, at);
-    let mut j = 0;
-    while j < n {
+    for j in 0..n {
         if corner_from(work, at, j) == rem {
             return true;
         }
-        j += 1;
     }
     false
 }
@@ -66,10 +64,8 @@ fn push_sides(work: &mut [u32], at: usize, p: Poly, rem: u32) -> usize
     ensures { Laid rem (untouched rem (polygon_of p)) work.old work.new at result }
 {
     let mut k: usize = 0;
-    let mut j = 0;
-    while j < p.n {
+    for j in 0..p.n {
         k += push_side(work, at + k * SIDE_SIZE, p, j, rem);
-        j += 1;
     }
     k
 }

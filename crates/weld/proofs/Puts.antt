@@ -1,5 +1,6 @@
 -- One vertex in the tables: what a new one makes of the words, what a mark does, and that both together are R3 for one vertex. Each write is the rewriting
 -- of one table. Assumes nothing.
+use Rattle.std.specs.Prelude.{Some, None}
 use Rattle.std.proofs.Common.{◌≡◌, ℕ, ◌+◌, ◌*◌, ◌<◌, ◌≤◌, true, false, eqb, ◌≢◌, List, [], ◌∷◌, ◌++◌, length, get_or, set, sym, refl, ap, ◌∙◌, ⊎_elim}
 use Rattle.std.proofs.Common.{le_refl, arith, length-append, eq-eqb, ne_eqb}
 use lib.ListN.{get_or-append}
@@ -12,7 +13,6 @@ use Rattle.mem.specs.Shelves.{chained_put, shelved}
 use Rattle.mem.specs.Chain.{nexts}
 use Rattle.rules.specs.Weld.{no_vertex, bucket, highest_below, number_or, number_of, flagged, add_vertex}
 use Rattle.rules.specs.declared.Vertex.{Vertex}
-use Rattle.rules.specs.declared.Found.TheVariants.{At, Nothing}
 use Rattle.laws.proofs.Weld.{found_below}
 use Rattle.records.specs.Layout.{vertex_size, mark_place, vertex_words, vertices_at, marks_at, vertex_records}
 use Rattle.records.specs.Vertices.{length_vertices, length_vertex_records, length_marks, records_snoc, records_mark, words_at}
@@ -119,7 +119,7 @@ module _ (w : List ℕ) (t : Tables) (nv : ℕ) (s : Tabled w t nv) where
   flag_clear k flag e = rw (ne_eqb flag 1 e) s.is
 
 -- ---- the number
-pub added_old : (height : ℕ) (w : List ℕ) (t : Tables) (nv : ℕ) (v : Vertex) (k : ℕ) → At k ≡ highest_below height (vertices_at w t.vertices nv) v nv
+pub added_old : (height : ℕ) (w : List ℕ) (t : Tables) (nv : ℕ) (v : Vertex) (k : ℕ) → Some k ≡ highest_below height (vertices_at w t.vertices nv) v nv
     → Added height w w t nv v k
 unfolding number_of number_or
 added_old height w t nv v k e =
@@ -130,7 +130,7 @@ added_old height w t nv v k e =
       within = omega arith;
     }
 
-pub added_new : (height : ℕ) (w : List ℕ) {u : List ℕ} (t : Tables) (nv : ℕ) (v : Vertex) → Nothing ≡ highest_below height (vertices_at w t.vertices nv) v nv
+pub added_new : (height : ℕ) (w : List ℕ) {u : List ℕ} (t : Tables) (nv : ℕ) (v : Vertex) → None ≡ highest_below height (vertices_at w t.vertices nv) v nv
     → u ≡ tabled w t (vertices_at w t.vertices nv ++ (v ∷ [])) (marks_at w t.vertices nv ++ (0 ∷ [])) → Added height w u t nv v nv
 unfolding number_of number_or
 added_new height w t nv v e p = record {

@@ -1,5 +1,6 @@
 -- The weld's search: vertices that are the same are in one bucket, so that the first match on the walk along v's bucket, newest first, is the
 -- highest-numbered match of all; and the bucket as the code computes it. Assumes nothing.
+use Rattle.std.specs.Prelude.{Some, None}
 use Rattle.std.proofs.Common.{◌≡◌, ℕ, ◌+◌, ◌-◌, ◌*◌, ◌%◌, ◌^◌, ◌<◌, ◌≤◌, Bool, true, false, ◌&&◌, eqb, leb, ◌≢◌, List, length, get_or, sym, refl, ap}
 use Rattle.std.proofs.Common.{◌∙◌, le_refl, lt_of_le_of_lt, add-zero, le_of_lt, mul-le-mul_left, mul-lt-mul_of_pos_right, arith, pow_pos, pow-add}
 use Rattle.std.proofs.Common.{ne_eqb, eqb-true}
@@ -16,7 +17,6 @@ use Rattle.laws.proofs.Searches.{walk_in_lem, walk_found, walk_next, walk_less}
 use Rattle.rules.specs.Lists.{apart}
 use Rattle.rules.specs.Weld.{no_vertex, bucket, is_same, highest_below}
 use Rattle.rules.specs.declared.Vertex.{Vertex}
-use Rattle.rules.specs.declared.Found.TheVariants.{At, Nothing}
 use Rattle.records.specs.Layout.{vertex_size, vertex_in, vertices_at}
 use Rattle.records.specs.Vertices.{length_vertices}
 use Rattle.weld.specs.declared.find.Tables.{Tables}
@@ -87,7 +87,7 @@ keyed : (height : ℕ) (vs : List Vertex) (v : Vertex) (k : ℕ) → same_as hei
 unfolding key_of
 keyed height vs v k e = same_key height (get_or vs k no_vertex) v e
 
-pub walk_none : (height : ℕ) (vs : List Vertex) (v : Vertex) (n : ℕ) {link : ℕ} → Walk height vs v n link → link ≤ 0 → Nothing ≡ highest_below height vs v n
+pub walk_none : (height : ℕ) (vs : List Vertex) (v : Vertex) (n : ℕ) {link : ℕ} → Walk height vs v n link → link ≤ 0 → None ≡ highest_below height vs v n
 unfolding highest_below
 walk_none height vs v n r h = SearchesProofs.walk_none (same_as height vs v) (key_of vs) (bucket v.x v.z) (keyed height vs v) n r h
 
@@ -161,7 +161,7 @@ module _ (w : List ℕ) (t : Tables) (nv : ℕ) (s : Tabled w t nv) where
           walk_next (same_as height (vertices_at w t.vertices nv) v) _ _ (keyed height (vertices_at w t.vertices nv) v) nv r k named (walk_word step_in e)
           (rw seen at (agreed_not height _ v a q f))
 
-      pub step_found : 3 ≤ c → At (link - 1) ≡ highest_below height (vertices_at w t.vertices nv) v nv
+      pub step_found : 3 ≤ c → Some (link - 1) ≡ highest_below height (vertices_at w t.vertices nv) v nv
       unfolding k highest_below
       step_found q =
           walk_found (same_as height (vertices_at w t.vertices nv) v) _ _ (keyed height (vertices_at w t.vertices nv) v) nv r k named

@@ -7,7 +7,7 @@ ghost use Rattle.weld.specs.Tables.{tabled, Room, Tabled, grown, Added, WeldedOn
 use crate::find::{Tables, find_vertex};
 use crate::hash::compute_vertex_hash;
 use records::vertex::{MARK_AT, VERTEX_SIZE, store_vertex};
-use rules::{Found, Vertex};
+use rules::Vertex;
 
 // Vertex nv is v, with no mark: it becomes the first of its bucket, and the one that was first comes next.
 fn put_vertex(work: &mut [u32], t: Tables, nv: usize, v: Vertex)
@@ -27,10 +27,10 @@ pub fn add_vertex(work: &mut [u32], t: Tables, nv: usize, v: Vertex, height: u16
     ensures { Added height work.old work.new t nv v result }
 {
     match find_vertex(work, t, nv, v, height) {
-        Found::At(k) => {
+        Some(k) => {
             return k;
         }
-        Found::Nothing => {
+        None => {
             put_vertex(work, t, nv, v);
             return nv;
         }

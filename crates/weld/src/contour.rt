@@ -47,14 +47,12 @@ pub fn weld_contour(
     ensures { WeldedTo height work.old work.new numbers.now t nv ko first n result }
 {
     let mut m = nv;
-    let mut i = 0;
-    while i < n {
+    for i in 0..n {
         let v = vertex_at(numbers, first + i);
         let flag = flag_at(numbers, first + i);
         let k = weld_vertex(work, t, m, v, flag, height);
         work[ko + i] = k as u32;
         m = grow(m, k);
-        i += 1;
     }
     m
 }

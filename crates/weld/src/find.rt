@@ -8,7 +8,7 @@ ghost use Rattle.weld.specs.Tables.{agree, Tabled};
 
 use crate::hash::compute_vertex_hash;
 use records::vertex::VERTEX_SIZE;
-use rules::{Found, Vertex};
+use rules::Vertex;
 use words::places::link_at;
 
 // Where the weld's words stand: 4,096 buckets, the vertices' records, and for each vertex the next one in its bucket.
@@ -42,11 +42,11 @@ fn agrees(work: &[u32], at: usize, v: Vertex, height: u16, c: usize) -> bool
 
 // The highest-numbered of the nv vertices that is the same as v. Those of its bucket are looked at from the newest on, and
 // a coordinate that doesn't agree sends the search on to the next of them.
-pub fn find_vertex(work: &[u32], t: Tables, nv: usize, v: Vertex, height: u16) -> Found
+pub fn find_vertex(work: &[u32], t: Tables, nv: usize, v: Vertex, height: u16) -> Option<usize>
     requires { Tabled work.now t nv }
     ensures { result ≡ highest_below height (vertices_at work.now t.vertices nv) v nv }
 {
-    let mut found = Found::Nothing;
+    let mut found = None;
     let mut link = link_at(work, t.buckets + compute_vertex_hash(v.x, v.z) as usize);
     'search: while 0 < link {
         let k = link - 1;
@@ -60,7 +60,7 @@ pub fn find_vertex(work: &[u32], t: Tables, nv: usize, v: Vertex, height: u16) -
                 continue 'search;
             }
         }
-        found = Found::At(k);
+        found = Some(k);
         break 'search;
     }
     found

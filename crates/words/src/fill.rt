@@ -7,10 +7,8 @@ pub fn fill(work: &mut [u32], at: usize, n: usize, x: u32)
     requires { at + n ≤ length work.old }
     ensures { work.new ≡ splice work.old at (replicate n x) }
 {
-    let mut i = 0;
-    while i < n {
+    for i in 0..n {
         work[at + i] = x;
-        i += 1;
     }
 }
 
@@ -19,9 +17,7 @@ pub fn fill16(numbers: &mut [u16], at: usize, n: usize, x: u16)
     requires { at + n ≤ length numbers.old }
     ensures { numbers.new ≡ splice numbers.old at (replicate n x) }
 {
-    let mut i = 0;
-    while i < n {
+    for i in 0..n {
         numbers[at + i] = x;
-        i += 1;
     }
 }

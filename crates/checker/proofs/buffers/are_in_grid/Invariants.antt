@@ -9,6 +9,3 @@ use Rattle.checker.proofs.buffers.are_in_grid.Given as goal
 
 abbrev pub invariant-loop-k : goal.invariant-loop-k
 invariant-loop-k l = Passing (λ i. not (is_high (vertex_in l.vertices i))) (grid_holds l.vertices l.n) l.n l.k
-
-abbrev pub decreases-loop-k : goal.decreases-loop-k
-decreases-loop-k l = l.n - l.k

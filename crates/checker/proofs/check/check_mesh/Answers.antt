@@ -9,16 +9,16 @@ use Rattle.checker.proofs.check.check_mesh.Goals as goal
 pub sound_verdict-requires : goal.sound_verdict-requires
 sound_verdict-requires c =
     let asked = claim_in c.args.nvp c.args.w c.args.h c.args.border c.args.claim c.args.vertices.now c.args.polygons.now c.args.links.now in
-    (sound_exactly asked.mesh).0 (sym c.soundness_of-sound.ensures ∙ c.in-Sound.is)
+    (sound_exactly asked.mesh).0 (sym c.soundness_of-sound.ensures ∙ c.in-Ok.is)
 
-pub returns-in-Sound : goal.returns-in-Sound
-returns-in-Sound c =
+pub returns-in-Ok : goal.returns-in-Ok
+returns-in-Ok c =
     let asked = claim_in c.args.nvp c.args.w c.args.h c.args.border c.args.claim c.args.vertices.now c.args.polygons.now c.args.links.now in
     let a = c.args in
     sound_last a.nvp a.w a.h a.border a.claim a.vertices.now a.polygons.now a.links.now c.ranges.claim c.sound_verdict.ensures
-    ∙ sym (sound_passes asked (sym c.soundness_of-sound.ensures ∙ c.in-Sound.is))
+    ∙ sym (sound_passes asked (sym c.soundness_of-sound.ensures ∙ c.in-Ok.is))
 
-pub returns-in-Broken : goal.returns-in-Broken
-returns-in-Broken c =
+pub returns-in-Err : goal.returns-in-Err
+returns-in-Err c =
     let asked = claim_in c.args.nvp c.args.w c.args.h c.args.border c.args.claim c.args.vertices.now c.args.polygons.now c.args.links.now in
-    unsound asked c.in-Broken.fault (sym c.soundness_of-sound.ensures ∙ c.in-Broken.is)
+    unsound asked c.in-Err.fault (sym c.soundness_of-sound.ensures ∙ c.in-Err.is)

@@ -20,19 +20,19 @@ unfolding polygon_count
 links_sound-requires c =
     (links_ready c.args.nvp c.args.vertices.now c.args.polygons.now c.args.links.now (rows_ready c.requires), refl)
 
-pub returns-in-At : goal.returns-in-At
-returns-in-At c =
+pub returns-in-Some : goal.returns-in-Some
+returns-in-Some c =
     let m = handed_in c.args.nvp c.args.vertices.now c.args.polygons.now c.args.links.now in
     let found : let m = m in
     c.first_bad_corners.result ≡ first_fault (corners_hold m) (polygon_count m) = corners_first c.args.nvp c.args.vertices.now c.args.polygons.now
     c.args.links.now c.requires c.first_bad_corners.ensures in
-    fault_found BadCorners _ found c.in-At.is
+    fault_found BadCorners _ found c.in-Some.is
 
-pub returns-in-Nothing : goal.returns-in-Nothing
-returns-in-Nothing c =
+pub returns-in-None : goal.returns-in-None
+returns-in-None c =
     let m = handed_in c.args.nvp c.args.vertices.now c.args.polygons.now c.args.links.now in
     let found : let m = m in
     c.first_bad_corners.result ≡ first_fault (corners_hold m) (polygon_count m) = corners_first c.args.nvp c.args.vertices.now c.args.polygons.now
     c.args.links.now c.requires c.first_bad_corners.ensures in
     links_then c.args.nvp c.args.vertices.now c.args.polygons.now c.args.links.now c.links_sound.ensures
-    ∙ none_found BadCorners _ found c.in-Nothing.is
+    ∙ none_found BadCorners _ found c.in-None.is

@@ -14,18 +14,18 @@ pub area_verdict-requires : goal.area_verdict-requires
 area_verdict-requires c =
     mesh_ready c.args.nvp c.args.vertices.now c.args.polygons.now c.args.links.now c.requires
 
-pub returns-in-At : goal.returns-in-At
-returns-in-At c =
+pub returns-in-Some : goal.returns-in-Some
+returns-in-Some c =
     let asked = claim_in c.args.nvp c.args.w c.args.h c.args.border c.args.claim c.args.vertices.now c.args.polygons.now c.args.links.now in
     let found : c.first_bad_portals.result ≡ first_fault (portals_hold asked) (polygon_count asked.mesh) = let a = c.args in
     portals_first a.nvp a.w a.h a.border a.claim a.vertices.now a.polygons.now a.links.now c.first_bad_portals.ensures in
-    portals_found asked found c.in-At.is
+    portals_found asked found c.in-Some.is
 
-pub returns-in-Nothing : goal.returns-in-Nothing
-returns-in-Nothing c =
+pub returns-in-None : goal.returns-in-None
+returns-in-None c =
     let asked = claim_in c.args.nvp c.args.w c.args.h c.args.border c.args.claim c.args.vertices.now c.args.polygons.now c.args.links.now in
     let found : c.first_bad_portals.result ≡ first_fault (portals_hold asked) (polygon_count asked.mesh) = let a = c.args in
     portals_first a.nvp a.w a.h a.border a.claim a.vertices.now a.polygons.now a.links.now c.first_bad_portals.ensures in
     let a = c.args in
-    portals_none asked found c.in-Nothing.is
+    portals_none asked found c.in-None.is
     (area_last a.nvp a.w a.h a.border a.claim a.vertices.now a.polygons.now a.links.now c.ranges.claim c.area_verdict.ensures)

@@ -8,6 +8,3 @@ use Rattle.checker.proofs.corners.are_vertices.Given as goal
 
 abbrev pub invariant-loop-k : goal.invariant-loop-k
 invariant-loop-k l = Passing (λ i. ltb (get_or l.row i 0) l.nv) (all_of (λ i. ltb (get_or l.row i 0) l.nv) 0 l.n) l.n l.k
-
-abbrev pub decreases-loop-k : goal.decreases-loop-k
-decreases-loop-k l = l.n - l.k

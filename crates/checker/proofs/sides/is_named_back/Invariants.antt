@@ -8,6 +8,3 @@ use Rattle.checker.proofs.sides.is_named_back.Given as goal
 abbrev pub invariant-loop-q : goal.invariant-loop-q
 invariant-loop-q l = Seeking (names_back l.corners l.links l.a l.b l.i) (any_of (names_back l.corners l.links l.a l.b l.i) 0 (length l.corners))
     (length l.corners) l.q
-
-abbrev pub decreases-loop-q : goal.decreases-loop-q
-decreases-loop-q l = length l.corners - l.q

@@ -9,6 +9,3 @@ use Rattle.checker.proofs.unused.are_unused.Given as goal
 
 abbrev pub invariant-loop-k : goal.invariant-loop-k
 invariant-loop-k l = Passing (λ i. eqb (get_or l.row i 0) none) (unused_from l.row l.from) (length l.row) l.k
-
-abbrev pub decreases-loop-k : goal.decreases-loop-k
-decreases-loop-k l = length l.row - l.k

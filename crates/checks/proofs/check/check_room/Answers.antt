@@ -5,8 +5,8 @@ use Rattle.rules.specs.declared.Refusal.TheVariants.{ShortBuffer}
 use Rattle.checks.proofs.InHand.{found_at, found_none}
 use Rattle.checks.proofs.check.check_room.Goals as goal
 
-pub returns-in-At : goal.returns-in-At
-returns-in-At c = found_at ShortBuffer (c.first_short.ensures ∙ ap (first_short c.args.have) c.least_lengths.ensures) c.in-At.is
+pub returns-in-Some : goal.returns-in-Some
+returns-in-Some c = found_at ShortBuffer (c.first_short.ensures ∙ ap (first_short c.args.have) c.least_lengths.ensures) c.in-Some.is
 
-pub returns-in-Nothing : goal.returns-in-Nothing
-returns-in-Nothing c = found_none ShortBuffer (c.first_short.ensures ∙ ap (first_short c.args.have) c.least_lengths.ensures) c.in-Nothing.is
+pub returns-in-None : goal.returns-in-None
+returns-in-None c = found_none ShortBuffer (c.first_short.ensures ∙ ap (first_short c.args.have) c.least_lengths.ensures) c.in-None.is

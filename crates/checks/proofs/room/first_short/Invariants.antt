@@ -7,6 +7,3 @@ use Rattle.checks.proofs.room.first_short.Given as goal
 
 abbrev pub invariant-loop-k : goal.invariant-loop-k
 invariant-loop-k l = Seeking (λ i. ltb (get_or l.have i 0) (get_or l.least i 0)) (length l.least) l.k l.found
-
-abbrev pub decreases-loop-k : goal.decreases-loop-k
-decreases-loop-k l = 7 - l.k

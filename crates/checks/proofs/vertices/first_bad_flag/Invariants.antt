@@ -7,6 +7,3 @@ use Rattle.checks.proofs.vertices.first_bad_flag.Given as goal
 
 abbrev pub invariant-loop-k : goal.invariant-loop-k
 invariant-loop-k l = Seeking (λ i. ltb 1 (flag_at l.numbers i)) l.n l.k l.found
-
-abbrev pub decreases-loop-k : goal.decreases-loop-k
-decreases-loop-k l = l.n - l.k

@@ -17,18 +17,18 @@ slice_bounds-read_numbers-count c = last_later c.last_cell-last.ensures (sym c.c
 pub slice_bounds-read_numbers-length : goal.slice_bounds-read_numbers-length
 slice_bounds-read_numbers-length c = sym (length-take-le _ _ (omega (arith, c.last_cell-last.ensures.within)))
 
-pub returns-in-Whole : goal.returns-in-Whole
+pub returns-in-Some : goal.returns-in-Some
 unfolding mesh_name ascii
-returns-in-Whole c =
-    let f : SFits w64 c.in-Whole.z = search rules in
+returns-in-Some c =
+    let f : SFits w64 c.in-Some.z = search rules in
     mesh_counted c.last_cell-last.ensures (sym c.count_cells.ensures ∙ c.if-count_cells-eq4.true) c.read_numbers-counts.ensures
-    c.if-counts.true c.read_signed.ensures c.in-Whole.is (to_z-of_z f)
+    c.if-counts.true c.read_signed.ensures c.in-Some.is (to_z-of_z f)
 
-pub returns-in-NotWhole : goal.returns-in-NotWhole
+pub returns-in-None : goal.returns-in-None
 unfolding mesh_name ascii
-returns-in-NotWhole c =
+returns-in-None c =
     total_bad c.last_cell-last.ensures (sym c.count_cells.ensures ∙ c.if-count_cells-eq4.true) c.read_numbers-counts.ensures
-    c.if-counts.true c.read_signed.ensures c.in-NotWhole.is
+    c.if-counts.true c.read_signed.ensures c.in-None.is
 
 pub returns-else-counts : goal.returns-else-counts
 unfolding mesh_name ascii

@@ -5,6 +5,3 @@ use Rattle.contours.proofs.cut.lay_contour.Given as goal
 
 abbrev pub invariant-loop-k : goal.invariant-loop-k
 invariant-loop-k l = Laying l.initial.work l.numbers l.first l.n l.po l.work l.k
-
-abbrev pub decreases-loop-k : goal.decreases-loop-k
-decreases-loop-k l = l.n - l.k

@@ -31,8 +31,6 @@ overflow_add-first c =
     let short-enough : length c.args.numbers.now < 2 ^ 64 = omega arith in
     record { fits = omega (arith, short-enough, going_first c.requires c.loop-c.invariant c.loop-c-test.true c.contour_at-k.ensures) }
 
-pub overflow_add-c : goal.overflow_add-c
-overflow_add-c c = record { fits = omega (arith, c.loop-c-test.true, few_contours c.requires) }
 
 pub loop-c-preserved : goal.loop-c-preserved
 loop-c-preserved c =

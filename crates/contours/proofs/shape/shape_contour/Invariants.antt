@@ -5,6 +5,3 @@ use Rattle.contours.proofs.shape.shape_contour.Given as goal
 
 abbrev pub invariant-loop-i : goal.invariant-loop-i
 invariant-loop-i l = Shaped l.initial.work l.at l.ko l.n l.to l.k l.region l.code l.work l.i
-
-abbrev pub decreases-loop-i : goal.decreases-loop-i
-decreases-loop-i l = l.k - l.i

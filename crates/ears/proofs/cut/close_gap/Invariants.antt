@@ -7,6 +7,3 @@ use Rattle.ears.proofs.cut.close_gap.Given as goal
 
 abbrev pub invariant-loop-i : goal.invariant-loop-i
 invariant-loop-i l = Closing l.k l.initial.ix l.ix l.i
-
-abbrev pub decreases-loop-i : goal.decreases-loop-i
-decreases-loop-i l = length l.initial.ix - l.i

@@ -7,6 +7,3 @@ use Rattle.ears.proofs.cut.count_up.Given as goal
 
 abbrev pub invariant-loop-k : goal.invariant-loop-k
 invariant-loop-k l = Filled l.initial.ix 0 (λ j. j) (length l.initial.ix) l.ix l.k
-
-abbrev pub decreases-loop-k : goal.decreases-loop-k
-decreases-loop-k l = length l.initial.ix - l.k

@@ -6,6 +6,3 @@ use Rattle.ears.proofs.cut.mark_all.Given as goal
 
 abbrev pub invariant-loop-i : goal.invariant-loop-i
 invariant-loop-i l = Marking l.a l.m l.initial.w l.w l.i
-
-abbrev pub decreases-loop-i : goal.decreases-loop-i
-decreases-loop-i l = l.m - l.i

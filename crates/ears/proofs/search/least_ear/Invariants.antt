@@ -9,6 +9,3 @@ use Rattle.ears.proofs.search.least_ear.Given as goal
 
 abbrev pub invariant-loop-i : goal.invariant-loop-i
 invariant-loop-i l = Doing (try_ear l.kind (points_in l.pts) l.ix) (least_ear l.kind (points_in l.pts) l.ix) (length l.ix) l.best l.i
-
-abbrev pub decreases-loop-i : goal.decreases-loop-i
-decreases-loop-i l = length l.ix - l.i

@@ -5,6 +5,3 @@ use Rattle.facettext.proofs.number.put_bits.Given as goal
 
 abbrev pub invariant-loop-i : goal.invariant-loop-i
 invariant-loop-i l = Bits l.initial.out l.at l.p l.out l.shift l.i
-
-abbrev pub decreases-loop-i : goal.decreases-loop-i
-decreases-loop-i l = 8 - l.i

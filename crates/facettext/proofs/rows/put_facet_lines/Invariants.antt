@@ -8,6 +8,3 @@ use Rattle.facettext.proofs.rows.put_facet_lines.Given as goal
 
 abbrev pub invariant-loop-k : goal.invariant-loop-k
 invariant-loop-k l = Pieces (row l.file) l.n (facet_lines (facets_in l.file)) l.initial.out l.at l.out l.to l.k
-
-abbrev pub decreases-loop-k : goal.decreases-loop-k
-decreases-loop-k l = l.n - l.k

@@ -12,6 +12,3 @@ abbrev pub invariant-loop-i : goal.invariant-loop-i
 invariant-loop-i l =
     Pieces (λ k. tab_byte ∷ coordinate_text (get_or l.ps k 0)) (length l.ps) (packed (λ p. tab_byte ∷ coordinate_text p) l.ps)
     l.initial.out l.at l.out l.to l.i
-
-abbrev pub decreases-loop-i : goal.decreases-loop-i
-decreases-loop-i l = length l.ps - l.i

@@ -16,8 +16,8 @@ returns-then-file-gt65536 c =
     (omega (arith, refused_room 23 0, c.put_refused-arg-1.given.0.1)) in
     record { printed = both.0; counted = both.1 }
 
-pub put_refused-requires-in-At : goal.put_refused-requires-in-At
-put_refused-requires-in-At c = omega (arith, refused_room 73 c.in-At.i, c.put_refused-arg-in-At-1.given.0.1)
+pub put_refused-requires-in-Some : goal.put_refused-requires-in-Some
+put_refused-requires-in-Some c = omega (arith, refused_room 73 c.in-Some.i, c.put_refused-arg-in-Some-1.given.0.1)
 
 pub put_good-requires : goal.put_good-requires
 put_good-requires c =
@@ -25,22 +25,22 @@ put_good-requires c =
     let file = c.args.file.now in
     record { file_value = right; room = omega (arith, good_fits file c.if-file-gt65536.false (right), c.put_good-arg-1.given.0.1) }
 
-pub returns-in-At : goal.returns-in-At
-returns-in-At c =
+pub returns-in-Some : goal.returns-in-Some
+returns-in-Some c =
     let right : right_length c.args.file.now ≡ true = sym c.right_length.ensures ∙ c.if-right_length.true in
     let file = c.args.file.now in
-    let i = c.in-At.i in
-    let both = whole_answer c.put_refused-in-At.ensures
-    (not_zero_lem file c.if-file-gt65536.false (right) i (sym c.first_wrong.ensures ∙ c.in-At.is))
-    (omega (arith, refused_room 73 i, c.put_refused-arg-in-At-1.given.0.1)) in
+    let i = c.in-Some.i in
+    let both = whole_answer c.put_refused-in-Some.ensures
+    (not_zero_lem file c.if-file-gt65536.false (right) i (sym c.first_wrong.ensures ∙ c.in-Some.is))
+    (omega (arith, refused_room 73 i, c.put_refused-arg-in-Some-1.given.0.1)) in
     record { printed = both.0; counted = both.1 }
 
-pub returns-in-Nothing : goal.returns-in-Nothing
-returns-in-Nothing c =
+pub returns-in-None : goal.returns-in-None
+returns-in-None c =
     let right : right_length c.args.file.now ≡ true = sym c.right_length.ensures ∙ c.if-right_length.true in
     let file = c.args.file.now in
     let short = c.if-file-gt65536.false in
-    let both = whole_answer c.put_good.ensures (all_good file short (right) (sym c.first_wrong.ensures ∙ c.in-Nothing.is))
+    let both = whole_answer c.put_good.ensures (all_good file short (right) (sym c.first_wrong.ensures ∙ c.in-None.is))
     (omega (arith, good_fits file short (right), c.put_good-arg-1.given.0.1)) in
     record { printed = both.0; counted = both.1 }
 

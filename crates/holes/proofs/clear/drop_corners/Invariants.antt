@@ -8,6 +8,3 @@ use Rattle.holes.proofs.clear.drop_corners.Given as goal
 
 abbrev pub invariant-loop-j : goal.invariant-loop-j
 invariant-loop-j l = Filled l.initial.work (l.at + 3) (λ k. dropped l.rem (get_or (corners_from l.initial.work l.at) k 0)) l.n l.work l.j
-
-abbrev pub decreases-loop-j : goal.decreases-loop-j
-decreases-loop-j l = l.n - l.j

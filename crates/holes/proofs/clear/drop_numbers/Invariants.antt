@@ -5,6 +5,3 @@ use Rattle.holes.proofs.clear.drop_numbers.Given as goal
 
 abbrev pub invariant-loop-i : goal.invariant-loop-i
 invariant-loop-i l = Dropping l.initial.work l.o l.n l.rem l.work l.i
-
-abbrev pub decreases-loop-i : goal.decreases-loop-i
-decreases-loop-i l = l.n - l.i

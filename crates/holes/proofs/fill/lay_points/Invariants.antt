@@ -4,6 +4,3 @@ use Rattle.holes.proofs.fill.lay_points.Given as goal
 
 abbrev pub invariant-loop-k : goal.invariant-loop-k
 invariant-loop-k l = Laying l.initial.work l.vo l.nv l.q l.m l.po l.work l.k
-
-abbrev pub decreases-loop-k : goal.decreases-loop-k
-decreases-loop-k l = l.m - l.k

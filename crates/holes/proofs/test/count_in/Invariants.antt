@@ -7,6 +7,3 @@ use Rattle.holes.proofs.test.count_in.Given as goal
 
 abbrev pub invariant-loop-i : goal.invariant-loop-i
 invariant-loop-i l = (l.i ≤ length l.s) × (l.c ≤ l.i) × (l.c ≡ count l.v (take l.i l.s))
-
-abbrev pub decreases-loop-i : goal.decreases-loop-i
-decreases-loop-i l = length l.s - l.i

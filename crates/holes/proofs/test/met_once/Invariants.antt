@@ -9,6 +9,3 @@ use Rattle.holes.proofs.test.met_once.Given as goal
 
 abbrev pub invariant-loop-i : goal.invariant-loop-i
 invariant-loop-i l = (l.i ≤ length l.s) × (l.c ≤ l.i) × (met_once l.s ≡ l.c + over 0 ◌+◌ (once l.s) l.i (length l.s))
-
-abbrev pub decreases-loop-i : goal.decreases-loop-i
-decreases-loop-i l = length l.s - l.i

@@ -6,6 +6,3 @@ use Rattle.holes.proofs.test.push_all.Given as goal
 
 abbrev pub invariant-loop-i : goal.invariant-loop-i
 invariant-loop-i l = Looking l.initial.work l.o l.np l.q l.rem l.work l.k l.i
-
-abbrev pub decreases-loop-i : goal.decreases-loop-i
-decreases-loop-i l = l.np - l.i

@@ -7,6 +7,3 @@ use Rattle.holes.proofs.test.push_neighbours.Given as goal
 
 abbrev pub invariant-loop-j : goal.invariant-loop-j
 invariant-loop-j l = Pushing l.initial.work l.at (neighbours_in l.rem (corners_of l.p)) (ends_from l.rem (corners_of l.p) l.p.n l.j) l.work l.k
-
-abbrev pub decreases-loop-j : goal.decreases-loop-j
-decreases-loop-j l = l.p.n - l.j

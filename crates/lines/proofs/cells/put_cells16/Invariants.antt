@@ -8,6 +8,3 @@ use Rattle.lines.proofs.cells.put_cells16.Given as goal
 
 abbrev pub invariant-loop-i : goal.invariant-loop-i
 invariant-loop-i l = Pieces (λ k. cell (get_or l.ns k 0)) (length l.ns) (packed cell l.ns) l.initial.out l.at l.out l.to l.i
-
-abbrev pub decreases-loop-i : goal.decreases-loop-i
-decreases-loop-i l = length l.ns - l.i

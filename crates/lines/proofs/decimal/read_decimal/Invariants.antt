@@ -7,6 +7,3 @@ use Rattle.lines.proofs.decimal.read_decimal.Given as goal
 
 abbrev pub invariant-loop-i : goal.invariant-loop-i
 invariant-loop-i l = Reading l.least l.most l.cell l.v l.i
-
-abbrev pub decreases-loop-i : goal.decreases-loop-i
-decreases-loop-i l = length l.cell - l.i

@@ -16,15 +16,15 @@ loop-i-init c =
 pub returns-then-at-line : goal.returns-then-at-line
 returns-then-at-line c = numbering_short c.loop-i.invariant c.loop-i-test.true c.if-at-line.true
 
-pub returns-in-Malformed : goal.returns-in-Malformed
-returns-in-Malformed c =
+pub returns-in-None : goal.returns-in-None
+returns-in-None c =
     numbering_bad c.loop-i.invariant c.loop-i-test.true c.if-at-line.false c.find-at-in-loop-i.ensures.0
-    c.read_decimal.ensures c.in-Malformed.is
+    c.read_decimal.ensures c.in-None.is
 
 pub loop-i-preserved : goal.loop-i-preserved
 loop-i-preserved c =
     numbering_next c.loop-i.invariant c.loop-i-test.true c.if-at-line.false c.find-at-in-loop-i.ensures.0
-    c.read_decimal.ensures c.in-Value.is c.find-at-in-loop-i.ensures.1
+    c.read_decimal.ensures c.in-Some.is c.find-at-in-loop-i.ensures.1
 
 pub returns-then-is_same_text : goal.returns-then-is_same_text
 returns-then-is_same_text c = numbering_end c.loop-i.invariant c.loop-i-test.false

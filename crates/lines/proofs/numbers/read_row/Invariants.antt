@@ -7,6 +7,3 @@ use Rattle.lines.proofs.numbers.read_row.Given as goal
 
 abbrev pub invariant-loop-i : goal.invariant-loop-i
 invariant-loop-i l = Numbering l.line l.name l.least l.mosts l.initial.values l.values l.at l.i
-
-abbrev pub decreases-loop-i : goal.decreases-loop-i
-decreases-loop-i l = length l.mosts - l.i

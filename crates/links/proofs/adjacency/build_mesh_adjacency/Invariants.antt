@@ -8,6 +8,3 @@ use Rattle.links.proofs.adjacency.build_mesh_adjacency.Given as goal
 abbrev pub invariant-loop-k : goal.invariant-loop-k
 invariant-loop-k l = Linkable l.initial.work l.o l.np l.t l.ne l.lo × Linking l.initial.work l.o l.np l.t l.ne l.lo l.work l.k
     × (length l.work ≡ length l.initial.work)
-
-abbrev pub decreases-loop-k : goal.decreases-loop-k
-decreases-loop-k l = l.ne - l.k

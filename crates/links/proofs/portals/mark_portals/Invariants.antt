@@ -5,6 +5,3 @@ use Rattle.links.proofs.portals.mark_portals.Given as goal
 
 abbrev pub invariant-loop-i : goal.invariant-loop-i
 invariant-loop-i l = Marking l.initial.work l.vo l.nv l.o l.np l.lo l.w l.h l.work l.i
-
-abbrev pub decreases-loop-i : goal.decreases-loop-i
-decreases-loop-i l = l.np - l.i

@@ -11,6 +11,3 @@ use Rattle.links.proofs.sides.join_polygon.Given as goal
 abbrev pub invariant-loop-j : goal.invariant-loop-j
 invariant-loop-j l = Going l.initial.work l.t l.nv l.ne l.ne (join_of (corners_of l.p) l.i)
     (each (join_of (corners_of l.p) l.i) 0 (length (corners_of l.p)) (edges_at l.initial.work l.t.edges l.ne)) (length (corners_of l.p)) l.work l.ne l.j 0
-
-abbrev pub decreases-loop-j : goal.decreases-loop-j
-decreases-loop-j l = l.p.n - l.j

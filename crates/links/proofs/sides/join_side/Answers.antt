@@ -14,20 +14,20 @@ find_free-requires c = (c.requires.0.now, end_in c.requires.0 (search rules) c.a
 pub join_edge-requires : goal.join_edge-requires
 join_edge-requires c =
     let long_p : length c.args.p.corners ≡ most_corners = search rules in
-    (c.requires.0.now, found_in c.requires.0 (long_p) c.args.j c.requires.1 c.corner-a.ensures c.side_end-b.ensures (rw c.in-At.is at c.find_free.ensures))
+    (c.requires.0.now, found_in c.requires.0 (long_p) c.args.j c.requires.1 c.corner-a.ensures c.side_end-b.ensures (rw c.in-Some.is at c.find_free.ensures))
 
 -- src/sides.rt:115:17
-pub returns-in-At : goal.returns-in-At
-returns-in-At c =
+pub returns-in-Some : goal.returns-in-Some
+returns-in-Some c =
     let long_p : length c.args.p.corners ≡ most_corners = search rules in
-    joined c.requires.0 (long_p) c.args.j c.requires.1 c.corner-a.ensures c.side_end-b.ensures c.if-b-a.true (rw c.in-At.is at c.find_free.ensures)
+    joined c.requires.0 (long_p) c.args.j c.requires.1 c.corner-a.ensures c.side_end-b.ensures c.if-b-a.true (rw c.in-Some.is at c.find_free.ensures)
     c.join_edge.ensures
 
 -- src/sides.rt:118:17
-pub returns-in-Nothing : goal.returns-in-Nothing
-returns-in-Nothing c =
+pub returns-in-None : goal.returns-in-None
+returns-in-None c =
     let long_p : length c.args.p.corners ≡ most_corners = search rules in
-    unjoined c.requires.0 (long_p) c.args.j c.requires.1 c.corner-a.ensures c.side_end-b.ensures c.if-b-a.true (rw c.in-Nothing.is at c.find_free.ensures)
+    unjoined c.requires.0 (long_p) c.args.j c.requires.1 c.corner-a.ensures c.side_end-b.ensures c.if-b-a.true (rw c.in-None.is at c.find_free.ensures)
 
 -- src/sides.rt:97:1
 pub returns : goal.returns

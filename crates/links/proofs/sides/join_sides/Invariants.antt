@@ -9,6 +9,3 @@ use Rattle.links.proofs.sides.join_sides.Given as goal
 abbrev pub invariant-loop-i : goal.invariant-loop-i
 invariant-loop-i l = Going l.initial.work l.t l.nv l.ne l.ne (join_all (polygons_at l.initial.work l.o l.np))
     (each (join_all (polygons_at l.initial.work l.o l.np)) 0 l.np (edges_at l.initial.work l.t.edges l.ne)) l.np l.work l.ne l.i 0
-
-abbrev pub decreases-loop-i : goal.decreases-loop-i
-decreases-loop-i l = l.np - l.i

@@ -12,6 +12,3 @@ abbrev pub invariant-loop-j : goal.invariant-loop-j
 invariant-loop-j l = Going l.initial.work l.t l.nv l.ne (l.ne + l.p.n) (record_of (corners_of l.p) l.i)
     (each (record_of (corners_of l.p) l.i) 0 (length (corners_of l.p)) (edges_at l.initial.work l.t.edges l.ne)) (length (corners_of l.p)) l.work l.n l.j
     (l.p.n - l.j)
-
-abbrev pub decreases-loop-j : goal.decreases-loop-j
-decreases-loop-j l = l.p.n - l.j

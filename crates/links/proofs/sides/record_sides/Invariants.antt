@@ -12,6 +12,3 @@ abbrev pub invariant-loop-i : goal.invariant-loop-i
 invariant-loop-i l = Going l.initial.work l.t l.nv l.ne (l.ne + corners_in (polygons_at l.initial.work l.o l.np))
     (record_all (polygons_at l.initial.work l.o l.np)) (each (record_all (polygons_at l.initial.work l.o l.np)) 0 l.np
     (edges_at l.initial.work l.t.edges l.ne)) l.np l.work l.n l.i (corners_in (drop l.i (polygons_at l.initial.work l.o l.np)))
-
-abbrev pub decreases-loop-i : goal.decreases-loop-i
-decreases-loop-i l = l.np - l.i

@@ -7,6 +7,3 @@ use Rattle.mend.proofs.close.close_up.Given as goal
 
 abbrev pub invariant-loop-i : goal.invariant-loop-i
 invariant-loop-i l = Closing l.initial.numbers l.kept l.to l.numbers l.i
-
-abbrev pub decreases-loop-i : goal.decreases-loop-i
-decreases-loop-i l = length l.kept - l.i

@@ -7,6 +7,3 @@ use Rattle.mend.proofs.contours.count_lost.Given as goal
 
 abbrev pub invariant-loop-c : goal.invariant-loop-c
 invariant-loop-c l = Counting l.lengths l.initial.numbers l.initial.list l.initial.work l.numbers l.list l.work l.first l.lost l.c
-
-abbrev pub decreases-loop-c : goal.decreases-loop-c
-decreases-loop-c l = length l.lengths - l.c

@@ -9,28 +9,28 @@ loop-c-init c =
 
 pub mend_contour-one-requires : goal.mend_contour-one-requires
 mend_contour-one-requires c =
-    mending_ready c.requires c.loop-c.invariant c.loop-c-test.true c.link_at-n.ensures
+    mending_ready c.requires c.loop-c.invariant (omega arith) c.link_at-n.ensures
 
 pub overflow_cast-lengths : goal.overflow_cast-lengths
 overflow_cast-lengths c =
-    let w = mending_small c.requires c.loop-c.invariant c.loop-c-test.true c.link_at-n.ensures
+    let w = mending_small c.requires c.loop-c.invariant (omega arith) c.link_at-n.ensures
     c.mend_contour-one.ensures in
     record { fits = omega (arith, w) }
 
 pub overflow_add-all : goal.overflow_add-all
 overflow_add-all c =
-    let w = mending_small c.requires c.loop-c.invariant c.loop-c-test.true c.link_at-n.ensures
+    let w = mending_small c.requires c.loop-c.invariant (omega arith) c.link_at-n.ensures
     c.mend_contour-one.ensures in
     record { fits = omega (arith, w) }
 
 pub overflow_add-first : goal.overflow_add-first
 overflow_add-first c =
-    let w = mending_ready c.requires c.loop-c.invariant c.loop-c-test.true c.link_at-n.ensures in
+    let w = mending_ready c.requires c.loop-c.invariant (omega arith) c.link_at-n.ensures in
     record { fits = omega (arith, w.walk.small) }
 
 pub loop-c-preserved : goal.loop-c-preserved
 loop-c-preserved c =
-    mending_more c.requires c.loop-c.invariant c.loop-c-test.true c.link_at-n.ensures c.mend_contour-one.ensures
+    mending_more c.requires c.loop-c.invariant (omega arith) c.link_at-n.ensures c.mend_contour-one.ensures
 
 pub returns : goal.returns
-returns c = mending_end c.loop-c.invariant c.loop-c-test.false
+returns c = mending_end c.loop-c.invariant (omega arith)

@@ -7,6 +7,3 @@ use Rattle.mend.proofs.contours.mend_all.Given as goal
 
 abbrev pub invariant-loop-c : goal.invariant-loop-c
 invariant-loop-c l = MendingAll l.initial.lengths l.initial.numbers l.initial.list l.initial.work l.lengths l.numbers l.list l.work l.all l.first l.c
-
-abbrev pub decreases-loop-c : goal.decreases-loop-c
-decreases-loop-c l = length l.initial.lengths - l.c

@@ -7,6 +7,3 @@ use Rattle.mend.proofs.job.longest_of.Given as goal
 
 abbrev pub invariant-loop-c : goal.invariant-loop-c
 invariant-loop-c l = Longest l.lengths l.most l.c
-
-abbrev pub decreases-loop-c : goal.decreases-loop-c
-decreases-loop-c l = length l.lengths - l.c

@@ -6,6 +6,3 @@ use Rattle.mend.proofs.pass.pass_all.Given as goal
 
 abbrev pub invariant-loop-j : goal.invariant-loop-j
 invariant-loop-j l = Going l.writes l.initial.numbers l.initial.list l.initial.work l.first l.e l.lost l.numbers l.list l.work l.at l.j
-
-abbrev pub decreases-loop-j : goal.decreases-loop-j
-decreases-loop-j l = l.e - l.j

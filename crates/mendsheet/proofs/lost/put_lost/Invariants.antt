@@ -8,6 +8,3 @@ use Rattle.mendsheet.proofs.lost.put_lost.Given as goal
 
 abbrev pub invariant-loop-i : goal.invariant-loop-i
 invariant-loop-i l = Pieces (λ j. lost_line l.lengths (get_or l.lost j 0)) (length l.lost) (lost_text_of l.lengths l.lost) l.initial.out 0 l.out l.to l.i
-
-abbrev pub decreases-loop-i : goal.decreases-loop-i
-decreases-loop-i l = length l.lost - l.i

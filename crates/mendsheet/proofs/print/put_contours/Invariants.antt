@@ -6,6 +6,3 @@ use Rattle.mendsheet.proofs.print.put_contours.Given as goal
 
 abbrev pub invariant-loop-c : goal.invariant-loop-c
 invariant-loop-c l = Contours l.lengths l.regions l.codes l.numbers l.initial.out l.at l.out l.to l.first l.c
-
-abbrev pub decreases-loop-c : goal.decreases-loop-c
-decreases-loop-c l = length l.lengths - l.c

@@ -6,6 +6,3 @@ use Rattle.mendsheet.proofs.print.put_points.Given as goal
 
 abbrev pub invariant-loop-k : goal.invariant-loop-k
 invariant-loop-k l = Pieces (traced_line l.numbers) l.end (texts_from (traced_line l.numbers) l.first l.end) l.initial.out l.at l.out l.to l.k
-
-abbrev pub decreases-loop-k : goal.decreases-loop-k
-decreases-loop-k l = l.end - l.k

@@ -5,6 +5,3 @@ use Rattle.outputs.proofs.rows.copy_corners.Given as goal
 
 abbrev pub invariant-loop-i : goal.invariant-loop-i
 invariant-loop-i l = CornersCopied l.work l.o l.np l.nvp l.initial.out l.out l.i
-
-abbrev pub decreases-loop-i : goal.decreases-loop-i
-decreases-loop-i l = l.np - l.i

@@ -5,6 +5,3 @@ use Rattle.outputs.proofs.rows.copy_links.Given as goal
 
 abbrev pub invariant-loop-i : goal.invariant-loop-i
 invariant-loop-i l = LinksCopied l.work l.o l.np l.lo l.nvp l.initial.out l.out l.i
-
-abbrev pub decreases-loop-i : goal.decreases-loop-i
-decreases-loop-i l = l.np - l.i

@@ -6,6 +6,3 @@ use Rattle.outputs.proofs.rows.put_corners.Given as goal
 
 abbrev pub invariant-loop-k : goal.invariant-loop-k
 invariant-loop-k l = Filled l.initial.out l.to (λ j. get_or l.p.corners j 0) l.n l.out l.k
-
-abbrev pub decreases-loop-k : goal.decreases-loop-k
-decreases-loop-k l = l.n - l.k

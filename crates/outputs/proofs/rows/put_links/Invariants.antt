@@ -6,6 +6,3 @@ use Rattle.outputs.proofs.rows.put_links.Given as goal
 
 abbrev pub invariant-loop-j : goal.invariant-loop-j
 invariant-loop-j l = Filled l.initial.out l.to (λ k. get_or l.work (l.at + k) 0) l.n l.out l.j
-
-abbrev pub decreases-loop-j : goal.decreases-loop-j
-decreases-loop-j l = l.n - l.j

@@ -5,6 +5,3 @@ use Rattle.outputs.proofs.tags.clear_flags.Given as goal
 
 abbrev pub invariant-loop-k : goal.invariant-loop-k
 invariant-loop-k l = Filled l.initial.out 0 (λ j. 0) l.np l.out l.k
-
-abbrev pub decreases-loop-k : goal.decreases-loop-k
-decreases-loop-k l = l.np - l.k

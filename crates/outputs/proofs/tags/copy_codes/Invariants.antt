@@ -7,6 +7,3 @@ use Rattle.outputs.proofs.tags.copy_codes.Given as goal
 
 abbrev pub invariant-loop-i : goal.invariant-loop-i
 invariant-loop-i l = Filled l.initial.out 0 (λ j. (polygon_at (polygons_at l.work l.o l.np) j).code) l.np l.out l.i
-
-abbrev pub decreases-loop-i : goal.decreases-loop-i
-decreases-loop-i l = l.np - l.i

@@ -5,6 +5,3 @@ use Rattle.outputs.proofs.vertices.copy_vertices.Given as goal
 
 abbrev pub invariant-loop-k : goal.invariant-loop-k
 invariant-loop-k l = VerticesCopied l.work l.vo l.nv l.initial.out l.out l.k
-
-abbrev pub decreases-loop-k : goal.decreases-loop-k
-decreases-loop-k l = l.nv - l.k

@@ -8,6 +8,3 @@ use Rattle.polys.proofs.best.best_pair.Given as goal
 abbrev pub invariant-loop-a : goal.invariant-loop-a
 invariant-loop-a l = Doing (best_of_row (vertices_at l.work l.vo l.nv) l.nvp (polygons_at l.work l.o l.np)) (best_pair (vertices_at l.work l.vo l.nv)
     l.nvp (polygons_at l.work l.o l.np)) l.np l.m l.a
-
-abbrev pub decreases-loop-a : goal.decreases-loop-a
-decreases-loop-a l = l.np - l.a

@@ -7,6 +7,3 @@ use Rattle.polys.proofs.merge.put_past.Given as goal
 
 abbrev pub invariant-loop-i : goal.invariant-loop-i
 invariant-loop-i l = Filled l.initial.d l.at (past (corners_of l.p) l.e) (l.p.n - 1) l.d l.i
-
-abbrev pub decreases-loop-i : goal.decreases-loop-i
-decreases-loop-i l = l.p.n - 1 - l.i

@@ -6,6 +6,3 @@ use Rattle.polys.proofs.row.stamped_row.Given as goal
 
 abbrev pub invariant-loop-b : goal.invariant-loop-b
 invariant-loop-b l = Searching (vertices_at l.work l.vo l.nv) l.nvp (polygons_at l.work l.o l.np) l.a l.initial.m l.np l.m l.b
-
-abbrev pub decreases-loop-b : goal.decreases-loop-b
-decreases-loop-b l = l.np - l.b

@@ -9,6 +9,3 @@ use Rattle.polys.proofs.rows.best_kept.Given as goal
 abbrev pub invariant-loop-r : goal.invariant-loop-r
 invariant-loop-r l = Doing (row_against (vertices_at l.work l.vo l.nv) l.nvp (polygons_at l.work l.o l.np)) (best_pair (vertices_at l.work l.vo l.nv)
     l.nvp (polygons_at l.work l.o l.np)) l.np l.m l.r
-
-abbrev pub decreases-loop-r : goal.decreases-loop-r
-decreases-loop-r l = l.np - l.r

@@ -6,6 +6,3 @@ use Rattle.polys.proofs.side.shared_by.Given as goal
 
 abbrev pub invariant-loop-j : goal.invariant-loop-j
 invariant-loop-j l = RowFrom (corners_from l.work l.at) (corners_from l.work l.bt) l.i l.j l.c
-
-abbrev pub decreases-loop-j : goal.decreases-loop-j
-decreases-loop-j l = l.n - l.j

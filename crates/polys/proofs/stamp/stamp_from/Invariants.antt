@@ -7,6 +7,3 @@ use Rattle.polys.proofs.stamp.stamp_from.Given as goal
 
 abbrev pub invariant-loop-i : goal.invariant-loop-i
 invariant-loop-i l = Doing (stamp_with (corners_from l.work l.at)) (stamp_of (corners_from l.work l.at)) l.n l.s l.i
-
-abbrev pub decreases-loop-i : goal.decreases-loop-i
-decreases-loop-i l = l.n - l.i

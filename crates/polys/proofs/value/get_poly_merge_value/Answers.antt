@@ -1,8 +1,8 @@
 -- `polys::value::get_poly_merge_value` meets its contract: each arm is the definition with its tests known. Assumes nothing.
+use Rattle.std.specs.Prelude.{Some}
 use mathlib.Core.Path.{◌≡◌}
 use Prim.Native.Nat.{◌+◌, ◌*◌}
 use Rattle.rules.specs.Merge.{shared_side}
-use Rattle.rules.specs.declared.Shared.TheVariants.{Sides}
 use Rattle.records.specs.Layout.{polygon_size}
 use Rattle.records.specs.Values.{corners_from}
 use Rattle.records.specs.Corners.{few_from}
@@ -33,20 +33,20 @@ shared_side-requires c =
 
 pub pair_of-requires : goal.pair_of-requires
 pair_of-requires c =
-    let here : Sides c.in-Sides.i c.in-Sides.j
+    let here : Some (c.in-Some.i, c.in-Some.j)
     ≡ shared_side ((corners_from c.args.work.now (c.args.o + c.args.a * polygon_size)))
-    ((corners_from c.args.work.now (c.args.o + c.args.b * polygon_size))) = rw c.in-Sides.is at c.shared_side.ensures in
+    ((corners_from c.args.work.now (c.args.o + c.args.b * polygon_size))) = rw c.in-Some.is at c.shared_side.ensures in
     joint_of c.requires.0 _ _ _ _ c.requires.1 c.requires.2 (here)
 
-pub returns-in-Sides : goal.returns-in-Sides
-returns-in-Sides c =
-    let here : Sides c.in-Sides.i c.in-Sides.j
+pub returns-in-Some : goal.returns-in-Some
+returns-in-Some c =
+    let here : Some (c.in-Some.i, c.in-Some.j)
     ≡ shared_side ((corners_from c.args.work.now (c.args.o + c.args.a * polygon_size)))
-    ((corners_from c.args.work.now (c.args.o + c.args.b * polygon_size))) = rw c.in-Sides.is at c.shared_side.ensures in
+    ((corners_from c.args.work.now (c.args.o + c.args.b * polygon_size))) = rw c.in-Some.is at c.shared_side.ensures in
     value_at_sides c.requires.0 _ _ c.requires.1 c.requires.2 c.count_from.ensures c.count_from-2.ensures _ _
     c.if-nvp-count_from.false (here) c.pair_of.ensures
 
-pub returns-in-NoSide : goal.returns-in-NoSide
-returns-in-NoSide c =
+pub returns-in-None : goal.returns-in-None
+returns-in-None c =
     value_at_none c.requires.0 _ _ c.requires.1 c.requires.2 c.count_from.ensures c.count_from-2.ensures
-    c.if-nvp-count_from.false (rw c.in-NoSide.is at c.shared_side.ensures) c.no_pair-in-NoSide.ensures
+    c.if-nvp-count_from.false (rw c.in-None.is at c.shared_side.ensures) c.no_pair-in-None.ensures

@@ -7,6 +7,3 @@ use Rattle.records.proofs.polygon.load_poly.Given as goal
 
 abbrev pub invariant-loop-i : goal.invariant-loop-i
 invariant-loop-i l = Filled (replicate most_corners none) 0 (λ k. get_or l.work (l.at + 3 + k) 0) l.n l.c l.i
-
-abbrev pub decreases-loop-i : goal.decreases-loop-i
-decreases-loop-i l = l.n - l.i

@@ -6,6 +6,3 @@ use Rattle.records.proofs.polygon.store_poly.Given as goal
 
 abbrev pub invariant-loop-i : goal.invariant-loop-i
 invariant-loop-i l = Filled l.initial.work (l.at + 3) (λ k. get_or l.p.corners k 0) most_corners l.work l.i
-
-abbrev pub decreases-loop-i : goal.decreases-loop-i
-decreases-loop-i l = most_corners - l.i

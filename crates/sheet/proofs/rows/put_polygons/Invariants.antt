@@ -8,6 +8,3 @@ use Rattle.sheet.proofs.rows.put_polygons.Given as goal
 
 abbrev pub invariant-loop-i : goal.invariant-loop-i
 invariant-loop-i l = Pieces (polygon_row l.nvp l.polygons l.neighbours l.regions l.codes) l.n (polygon_rows l.nvp l.n l.polygons l.neighbours l.regions l.codes) l.initial.out l.at l.out l.to l.i
-
-abbrev pub decreases-loop-i : goal.decreases-loop-i
-decreases-loop-i l = l.n - l.i

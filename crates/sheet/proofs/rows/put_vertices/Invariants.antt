@@ -7,6 +7,3 @@ use Rattle.sheet.proofs.rows.put_vertices.Given as goal
 
 abbrev pub invariant-loop-i : goal.invariant-loop-i
 invariant-loop-i l = Pieces (vertex_row l.vertices) l.k (vertex_rows l.vertices l.k) l.initial.out l.at l.out l.to l.i
-
-abbrev pub decreases-loop-i : goal.decreases-loop-i
-decreases-loop-i l = l.k - l.i

@@ -7,6 +7,3 @@ use Rattle.stl.proofs.facets.get_facet.Given as goal
 
 abbrev pub invariant-loop-i : goal.invariant-loop-i
 invariant-loop-i l = Filled l.initial.words l.to (λ k. from_little (view l.file (l.at + 12 + k * 4) 4)) 9 l.words l.i
-
-abbrev pub decreases-loop-i : goal.decreases-loop-i
-decreases-loop-i l = 9 - l.i

@@ -5,6 +5,3 @@ use Rattle.stl.proofs.facets.get_facets.Given as goal
 
 abbrev pub invariant-loop-k : goal.invariant-loop-k
 invariant-loop-k l = Reads l.file l.initial.words l.words l.k
-
-abbrev pub decreases-loop-k : goal.decreases-loop-k
-decreases-loop-k l = l.n - l.k

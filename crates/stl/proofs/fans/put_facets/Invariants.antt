@@ -8,6 +8,3 @@ use Rattle.stl.proofs.fans.put_facets.Given as goal
 abbrev pub invariant-loop-i : goal.invariant-loop-i
 invariant-loop-i l = Pieces (λ j. fan_bytes l.size l.height l.vertices (row_at l.nvp l.polygons j)) l.np
     (facets_bytes l.size l.height l.nvp l.np l.vertices l.polygons) l.initial.out l.at l.out l.to l.i
-
-abbrev pub decreases-loop-i : goal.decreases-loop-i
-decreases-loop-i l = l.np - l.i

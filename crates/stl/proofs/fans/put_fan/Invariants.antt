@@ -7,6 +7,3 @@ use Rattle.stl.proofs.fans.put_fan.Given as goal
 
 abbrev pub invariant-loop-k : goal.invariant-loop-k
 invariant-loop-k l = Fan l.size l.height l.vertices l.corners l.initial.out l.at l.out l.to l.k
-
-abbrev pub decreases-loop-k : goal.decreases-loop-k
-decreases-loop-k l = length l.corners - l.k

@@ -6,18 +6,18 @@ use Rattle.stl.proofs.write.write_stl.Goals as goal
 pub write_sound-requires : goal.write_sound-requires
 write_sound-requires c =
     let a = c.args in
-    mesh_sound a.nvp a.vertices.now a.polygons.now a.links.now c.soundness_of-sound.ensures c.in-Sound.is
+    mesh_sound a.nvp a.vertices.now a.polygons.now a.links.now c.soundness_of-sound.ensures c.in-Ok.is
 
-pub returns-in-Sound : goal.returns-in-Sound
-returns-in-Sound c =
+pub returns-in-Ok : goal.returns-in-Ok
+returns-in-Ok c =
     let a = c.args in
     let both = sound_written a.nvp a.vertices.now a.polygons.now a.links.now c.soundness_of-sound.ensures (scale_in a.inches a.size a.height) a.file.now
-    c.in-Sound.is (c.write_sound.ensures.answer, c.write_sound.ensures.bytes) in
+    c.in-Ok.is (c.write_sound.ensures.answer, c.write_sound.ensures.bytes) in
     record { answer = both.0; bytes = both.1 }
 
-pub returns-in-Broken : goal.returns-in-Broken
-returns-in-Broken c =
+pub returns-in-Err : goal.returns-in-Err
+returns-in-Err c =
     let a = c.args in
     let both = broken_refused a.nvp a.vertices.now a.polygons.now a.links.now c.soundness_of-sound.ensures (scale_in a.inches a.size a.height) a.file.now
-    c.in-Broken.is in
+    c.in-Err.is in
     record { answer = both.0; bytes = both.1 }

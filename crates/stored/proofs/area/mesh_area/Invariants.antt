@@ -6,6 +6,3 @@ use Rattle.stored.proofs.area.mesh_area.Given as goal
 
 abbrev pub invariant-loop-i : goal.invariant-loop-i
 invariant-loop-i l = Summed l.nvp l.n l.k l.vertices l.polygons l.sum l.i
-
-abbrev pub decreases-loop-i : goal.decreases-loop-i
-decreases-loop-i l = l.n - l.i

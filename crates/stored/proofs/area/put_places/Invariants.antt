@@ -7,6 +7,3 @@ use Rattle.stored.proofs.area.put_places.Given as goal
 
 abbrev pub invariant-loop-c : goal.invariant-loop-c
 invariant-loop-c l = Placed l.vertices l.corners l.initial.pts l.pts l.c
-
-abbrev pub decreases-loop-c : goal.decreases-loop-c
-decreases-loop-c l = length l.corners - l.c

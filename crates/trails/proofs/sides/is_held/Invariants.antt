@@ -7,6 +7,3 @@ use Rattle.trails.proofs.sides.is_held.Given as goal
 
 abbrev pub invariant-loop-j : goal.invariant-loop-j
 invariant-loop-j l = Unmet l.rem (corners_from l.work l.at) l.j
-
-abbrev pub decreases-loop-j : goal.decreases-loop-j
-decreases-loop-j l = l.n - l.j

@@ -5,6 +5,3 @@ use Rattle.trails.proofs.sides.push_sides.Given as goal
 
 abbrev pub invariant-loop-j : goal.invariant-loop-j
 invariant-loop-j l = Giving l.rem l.p l.initial.work l.work l.at l.k l.j
-
-abbrev pub decreases-loop-j : goal.decreases-loop-j
-decreases-loop-j l = l.p.n - l.j

@@ -1,6 +1,6 @@
+use Rattle.std.specs.Prelude.{None}
 use Rattle.std.proofs.Common.{◌≡◌, ◌+◌, ◌-◌, ◌≤◌, length}
 use Rattle.mem.specs.Slice.{view}
-use Rattle.rules.specs.declared.Found.TheVariants.{Nothing}
 use Rattle.records.specs.Layout.{vertex_size, vertex_in, vertices_at}
 use Rattle.weld.proofs.Walks.{Agreed, Walk}
 use Rattle.weld.proofs.find.find_vertex.Given as goal
@@ -12,7 +12,7 @@ abbrev pub decreases-loop-c : goal.decreases-loop-c
 decreases-loop-c l = 3 - l.c
 
 abbrev pub invariant-search : goal.invariant-search
-invariant-search l = Walk l.height (vertices_at l.work l.t.vertices l.nv) l.v l.nv l.link × (l.found ≡ Nothing)
+invariant-search l = Walk l.height (vertices_at l.work l.t.vertices l.nv) l.v l.nv l.link × (l.found ≡ None)
 
 abbrev pub decreases-search : goal.decreases-search
 decreases-search l = l.link

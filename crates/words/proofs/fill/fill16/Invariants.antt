@@ -5,6 +5,3 @@ use Rattle.words.proofs.fill.fill16.Given as goal
 
 abbrev pub invariant-loop-i : goal.invariant-loop-i
 invariant-loop-i l = Filled l.initial.numbers l.at (λ k. l.x) l.n l.numbers l.i
-
-abbrev pub decreases-loop-i : goal.decreases-loop-i
-decreases-loop-i l = l.n - l.i

@@ -6,6 +6,3 @@ use Rattle.words.proofs.moves.move_down.Given as goal
 
 abbrev pub invariant-loop-i : goal.invariant-loop-i
 invariant-loop-i l = Filled l.initial.part 0 (λ k. get_or l.initial.part (l.from + k) 0) l.n l.part l.i
-
-abbrev pub decreases-loop-i : goal.decreases-loop-i
-decreases-loop-i l = l.n - l.i
