@@ -40,9 +40,7 @@ fn close_gap(ix: &mut [u32], k: usize)
     ensures { ix.new ≡ without ix.old k ++ (0 ∷ []) }
 {
     let last = ix.len() - 1;
-    for i in k..last {
-        ix[i] = ix[i + 1];
-    }
+    ix.copy_within(k + 1.., k);
     ix[last] = 0;
 }
 
