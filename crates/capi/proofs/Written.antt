@@ -1,4 +1,5 @@
 -- Numbers written one after the other into a list of as many places are the whole list. Assumes nothing.
+use Rattle.std.specs.Prelude.{Ok, Err}
 use mathlib.Core.Path.{◌≡◌, refl, sym, ◌∙◌}
 use mathlib.Core.Bool.{Bool, true, false, cond}
 use mathlib.Core.List.{List, [], ◌∷◌}
@@ -8,12 +9,10 @@ use lib.Dec.{lit<}
 use lib.Ieee.{Float}
 use lib.ListN.{length, set}
 use Rattle.mem.specs.Slice.{splice_whole, set_each, stored_each}
-use Rattle.rules.specs.Replies.{refusal_number, refusal_second, number_of_reply, second_of, third_of}
+use Rattle.rules.specs.Replies.{Reply, as_built, refusal_number, refusal_second, number_of_reply, second_of, third_of}
 use Rattle.rules.specs.Units.{size_in}
 use Rattle.rules.specs.declared.Refusal.{Refusal}
 use Rattle.rules.specs.declared.Refusal.TheVariants.{BadCornerLimit, CountsDisagree, HighCoordinate, BadFlag, TooManyVertices, ShortBuffer, NoEarInContour, NoEarInHole}
-use Rattle.rules.specs.declared.Reply.{Reply}
-use Rattle.rules.specs.declared.Reply.TheVariants.{Built, Refused}
 use Rattle.capi.specs.Numbers.{header_length, answer_length, three_length, number_at, header_from, size_number, header_words, answer_words}
 
 module _ {A : Type 0} where
@@ -75,19 +74,19 @@ number_small (NoEarInContour c) = lit< tt
 number_small (NoEarInHole i) = lit< tt
 
 -- the answer's four numbers
-pub built_words : (reply : Reply) (inches : Bool) (n k u : ℕ) → reply ≡ Built n k → u ≡ cond inches 1 0 → 0 ∷ n ∷ k ∷ u ∷ [] ≡ answer_words reply inches
+pub built_words : (reply : Reply) (inches : Bool) (n k u : ℕ) → reply ≡ Ok (as_built n k) → u ≡ cond inches 1 0 → 0 ∷ n ∷ k ∷ u ∷ [] ≡ answer_words reply inches
 unfolding answer_words number_of_reply second_of third_of
 built_words reply inches n k u e f = rw (e, f) refl
 
-pub refused_words : (reply : Reply) (inches : Bool) (r : Refusal) (a b u : ℕ) → reply ≡ Refused r → a ≡ refusal_number r → b ≡ refusal_second r → u ≡ cond inches 1 0
+pub refused_words : (reply : Reply) (inches : Bool) (r : Refusal) (a b u : ℕ) → reply ≡ Err r → a ≡ refusal_number r → b ≡ refusal_second r → u ≡ cond inches 1 0
     → a ∷ b ∷ 0 ∷ u ∷ [] ≡ answer_words reply inches
 unfolding answer_words number_of_reply second_of third_of
 refused_words reply inches r a b u e p q f = rw (e, p, q, f) refl
 
-pub built_number : (reply : Reply) (n k : ℕ) → reply ≡ Built n k → 0 ≡ number_of_reply reply
+pub built_number : (reply : Reply) (n k : ℕ) → reply ≡ Ok (as_built n k) → 0 ≡ number_of_reply reply
 unfolding number_of_reply
 built_number reply n k e = rw e refl
 
-pub refused_number : (reply : Reply) (r : Refusal) (a : ℕ) → reply ≡ Refused r → a ≡ refusal_number r → a ≡ number_of_reply reply
+pub refused_number : (reply : Reply) (r : Refusal) (a : ℕ) → reply ≡ Err r → a ≡ refusal_number r → a ≡ number_of_reply reply
 unfolding number_of_reply
 refused_number reply r a e p = rw (e, p) refl

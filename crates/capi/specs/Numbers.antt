@@ -1,13 +1,12 @@
 -- The header and the answer as numbers. Definitions only.
 use Rattle.std.specs.Prelude.{Bool, cond, List, [], ◌∷◌, ℕ, Float, get_or}
 use Rattle.std.specs.Float.{nan}
-use Rattle.rules.specs.Replies.{number_of_reply, second_of, third_of}
+use Rattle.rules.specs.Replies.{Reply, number_of_reply, second_of, third_of}
 use Rattle.rules.specs.Units.{size_in}
 use Rattle.rules.specs.declared.Point.{Point}
 use Rattle.rules.specs.declared.CellSize.{CellSize}
 use Rattle.rules.specs.declared.CellSize.TheVariants.{Millimetres, Inches}
 use Rattle.rules.specs.declared.Header.{Header}
-use Rattle.rules.specs.declared.Reply.{Reply}
 
 abbrev pub point_at : ℕ → ℕ → Point
 point_at x z = record { x = x; z = z }

@@ -75,14 +75,14 @@ pub fn put_answer(reply: Reply, inches: bool, words: &mut [u64]) -> u32
 {
     let unit = unit_number(inches);
     match reply {
-        Reply::Built(n, k) => {
+        Ok(built) => {
             words[0] = 0;
-            words[1] = n;
-            words[2] = k;
+            words[1] = built.polygons;
+            words[2] = built.vertices;
             words[3] = unit;
             0
         }
-        Reply::Refused(r) => {
+        Err(r) => {
             let number = refusal_number(r);
             words[0] = number;
             words[1] = refusal_second(r);

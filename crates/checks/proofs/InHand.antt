@@ -1,5 +1,5 @@
 -- What is computed of the numbers in hand is the rules' of the job: each sum, search and list of least lengths is the same one. Assumes nothing.
-use Rattle.std.specs.Prelude.{Option, Some, None}
+use Rattle.std.specs.Prelude.{Option, Some, None, Result, Ok, Err, ⊤}
 use mathlib.Core.Path.{◌≡◌, refl}
 use mathlib.Core.Bool.{Bool, false, ◌&&◌, ◌||◌, and-true, and-false}
 use mathlib.Core.List.{List}
@@ -14,19 +14,17 @@ use Rattle.rules.specs.declared.Refusal.{Refusal}
 use Rattle.rules.specs.declared.Refusal.TheVariants.{BadCornerLimit, HighCoordinate, BadFlag, TooManyVertices, ShortBuffer}
 use Rattle.laws.specs.Checks.{Agreed}
 use Rattle.laws.proofs.Checks.{T-below-V}
-use Rattle.checks.specs.declared.check.Verdict.{Verdict}
-use Rattle.checks.specs.declared.check.Verdict.TheVariants.{Passed, Refused}
 use Rattle.checks.specs.Sums.{sum_all, sum_v, sum_t, all_is, v_is, t_is}
-use Rattle.checks.specs.Answers.{verdict_of, first_of, first_of_lem, first_high_in, first_bad_flag_in, high_is, flag_is, least_of, least_is}
-use Rattle.checks.proofs.Order.{vertex_checks, room_check}
+use Rattle.checks.specs.Answers.{verdict_of, first_high_in, first_bad_flag_in, high_is, flag_is, least_of, least_is}
+use Rattle.checks.proofs.Order.{high_check, flag_check, room_check}
 
 -- what a search found, as a verdict
 module _ (r : ℕ → Refusal) {f g : Option ℕ} (e : f ≡ g) where
-  pub found_at : {k : ℕ} → f ≡ Some k → Refused (r k) ≡ verdict_of (refuse_at r g)
+  pub found_at : {k : ℕ} → f ≡ Some k → Err (r k) ≡ verdict_of (refuse_at r g)
   unfolding verdict_of refuse_at
   found_at q = rw (← e, q) refl
 
-  pub found_none : f ≡ None → Passed ≡ verdict_of (refuse_at r g)
+  pub found_none : f ≡ None → Ok tt ≡ verdict_of (refuse_at r g)
   unfolding verdict_of refuse_at
   found_none q = rw (← e, q) refl
 
@@ -51,13 +49,15 @@ module _ (j : Job) where
   numbers_fit a e = omega (arith, a.numbers, all_is j)
 
   -- 3 and 4, of as many vertices as the lengths say
-  pub vertices_are : {n : ℕ} {high flags vertices : Verdict} → n ≡ sum_all j.lengths
-      → high ≡ verdict_of (refuse_at HighCoordinate (first_high_in j.numbers n))
-      → flags ≡ verdict_of (refuse_at BadFlag (first_bad_flag_in j.numbers n)) → vertices ≡ first_of high flags → vertices ≡ verdict_of (vertex_checks j)
-  vertices_are e a b q = rw (first_of_lem, high_is, flag_is, all_is, ← e, ← a, ← b) q
+  module _ {n : ℕ} (e : n ≡ sum_all j.lengths) where
+    pub high_says : {v : Result ⊤ Refusal} → v ≡ verdict_of (refuse_at HighCoordinate (first_high_in j.numbers n)) → v ≡ verdict_of (high_check j)
+    high_says q = rw (high_is, all_is, ← e) q
+
+    pub flags_say : {v : Result ⊤ Refusal} → v ≡ verdict_of (refuse_at BadFlag (first_bad_flag_in j.numbers n)) → v ≡ verdict_of (flag_check j)
+    flags_say q = rw (flag_is, all_is, ← e) q
 
   -- 5
-  pub many_is : {v : ℕ} {many : Verdict} → v ≡ sum_v j.lengths → many ≡ verdict_of (refuse_if (ltb 65535 v) (TooManyVertices v)) → many ≡ verdict_of (check_v j)
+  pub many_is : {v : ℕ} {many : Result ⊤ Refusal} → v ≡ sum_v j.lengths → many ≡ verdict_of (refuse_if (ltb 65535 v) (TooManyVertices v)) → many ≡ verdict_of (check_v j)
   unfolding check_v
   many_is e q = rw (v_is, ← e) q
 
@@ -66,5 +66,5 @@ module _ (j : Job) where
     pub t_below : t ≤ v
     t_below = omega (arith, T-below-V j, v_is j, t_is j)
 
-    pub room_is : (ls : List ℕ) {room : Verdict} → room ≡ verdict_of (refuse_at ShortBuffer (first_short ls (least_of j.nvp v t))) → room ≡ verdict_of (room_check j ls)
+    pub room_is : (ls : List ℕ) {room : Result ⊤ Refusal} → room ≡ verdict_of (refuse_at ShortBuffer (first_short ls (least_of j.nvp v t))) → room ≡ verdict_of (room_check j ls)
     room_is ls q = rw (least_is, v_is, t_is, ← e, ← f) q

@@ -1,43 +1,31 @@
 -- A job of the numbers that are handed in, the verdict, and the searches and the least lengths over those numbers. Assumes nothing.
 -- Key: `is_passed`, `is_refusal`: what a verdict says of the rules' check; `high_is`, `flag_is`, `least_is`: searches and lengths are the rules'.
-use Rattle.std.specs.Prelude.{◌≡◌, refl, List, [], ◌∷◌, ℕ, ◌+◌, ◌*◌, ◌≤◌, ltb, Option, None}
+use Rattle.std.specs.Prelude.{◌≡◌, refl, List, [], ◌∷◌, ℕ, ◌+◌, ◌*◌, ◌≤◌, ltb, Option, None, Result, Ok, Err, ⊤}
 use Rattle.std.proofs.Common.{arith}
 use Rattle.mem.specs.Loops.{over}
 use Rattle.rules.specs.Lists.{when, or_else}
 use Rattle.rules.specs.Job.{Job, vertex_at, flag_at, count_all, count_v, count_t}
-use Rattle.rules.specs.Checks.{Checked, passed, refusal, or_next, vertex_stride, work_words, least_lengths, is_high, first_high, first_bad_flag}
+use Rattle.rules.specs.Checks.{Checked, passed, refusal, vertex_stride, work_words, least_lengths, is_high, first_high, first_bad_flag}
 use Rattle.rules.specs.declared.Refusal.{Refusal}
-use Rattle.checks.specs.declared.check.Verdict.{Verdict}
-use Rattle.checks.specs.declared.check.Verdict.TheVariants.{Passed, Refused}
 
 -- the job of these numbers and lists
 abbrev pub job_of : ℕ → ℕ → ℕ → ℕ → List ℕ → List ℕ → List ℕ → List ℕ → Job
 job_of nvp w h border ls rs cs ns = record { nvp = nvp; w = w; h = h; border = border; lengths = ls; regions = rs; codes = cs; numbers = ns }
 
 -- the answer of the code, case by case: it may be built, or the refusal, whose number and second number are the rules' `refusal_number` and `refusal_second`
-unfoldable pub verdict_of : Checked → Verdict
-verdict_of passed = Passed
-verdict_of (refusal r) = Refused r
-
--- the first of two verdicts that refuses: the rules' `or_next`, of verdicts
-unfoldable pub first_of : Verdict → Verdict → Verdict
-first_of Passed v = v
-first_of (Refused r) v = Refused r
-
-pub first_of_lem : (a b : Checked) → verdict_of (or_next a b) ≡ first_of (verdict_of a) (verdict_of b)
-unfolding verdict_of first_of or_next
-first_of_lem passed b = refl
-first_of_lem (refusal r) b = refl
+unfoldable pub verdict_of : Checked → Result ⊤ Refusal
+verdict_of passed = Ok tt
+verdict_of (refusal r) = Err r
 
 -- for those who call: what the verdict says of the rules' own check
-pub is_passed : (c : Checked) → verdict_of c ≡ Passed → c ≡ passed
+pub is_passed : (c : Checked) → verdict_of c ≡ Ok tt → c ≡ passed
 unfolding verdict_of
 is_passed passed e = refl
-is_passed (refusal r) e = let z : ◌≡◌ {A = ℕ} 0 1 = cc in absurd (omega arith)
+is_passed (refusal r) e = cc
 
-pub is_refusal : (c : Checked) (r : Refusal) → verdict_of c ≡ Refused r → c ≡ refusal r
+pub is_refusal : (c : Checked) (r : Refusal) → verdict_of c ≡ Err r → c ≡ refusal r
 unfolding verdict_of
-is_refusal passed r e = let z : ◌≡◌ {A = ℕ} 0 1 = cc in absurd (omega arith)
+is_refusal passed r e = cc
 is_refusal (refusal q) r e = cc
 
 -- the rules' `first_high` and `first_bad_flag`, of n vertices of the numbers ns

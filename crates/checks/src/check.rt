@@ -3,91 +3,74 @@ ghost use Rattle.std.specs.Prelude.{◌≡◌, ℕ, ◌*◌, ◌≤◌, ltb, len
 ghost use Rattle.rules.specs.Job.{Job, job_stride};
 ghost use Rattle.rules.specs.Checks.{refuse_if, refuse_at, check_nvp, check_counts, first_short, check};
 ghost use Rattle.rules.specs.declared.Refusal.TheVariants.{HighCoordinate, BadFlag, TooManyVertices, ShortBuffer};
-ghost use Rattle.checks.specs.Answers.{job_of, verdict_of, first_of, first_high_in, first_bad_flag_in, Sized, least_of};
+ghost use Rattle.checks.specs.Answers.{job_of, verdict_of, first_high_in, first_bad_flag_in, Sized, least_of};
 
 use crate::counts::{count_all, count_t, count_v, counts_agree};
 use crate::room::{BUFFERS, first_short, least_lengths};
 use crate::vertices::{first_bad_flag, first_high};
 use rules::Refusal;
 
-// What the checks say of a job: it may be built, or one of replies 1 to 6.
-#[derive(Clone, Copy)]
-pub enum Verdict {
-    Passed,
-    Refused(Refusal),
-}
-
-// The first of two verdicts that refuses.
-fn or_next(a: Verdict, b: Verdict) -> Verdict
-    ensures { result ≡ first_of a b }
-{
-    match a {
-        Verdict::Passed => b,
-        Verdict::Refused(r) => Verdict::Refused(r),
-    }
-}
-
 // 1: nvp below 3 or above 12.
-fn check_nvp(nvp: u32) -> Verdict
+fn check_nvp(nvp: u32) -> Result<(), Refusal>
     ensures { (j : Job) → j.nvp ≡ nvp → result ≡ verdict_of (check_nvp j) }
 {
     if (nvp < 3) | (12 < nvp) {
-        return Verdict::Refused(Refusal::BadCornerLimit(nvp as u64));
+        return Err(Refusal::BadCornerLimit(u64::from(nvp)));
     }
-    Verdict::Passed
+    Ok(())
 }
 
 // 2: the lists don't agree in count, or there are over 65,535 contours.
-fn check_counts(lengths: &[u32], regions: &[u16], codes: &[u8], numbers: &[u16]) -> Verdict
+fn check_counts(lengths: &[u32], regions: &[u16], codes: &[u8], numbers: &[u16]) -> Result<(), Refusal>
     ensures { (nvp w h border : ℕ) → result ≡ verdict_of (check_counts (job_of nvp w h border lengths.now regions.now codes.now numbers.now)) }
 {
     if counts_agree(lengths, regions, codes, numbers) {
-        return Verdict::Passed;
+        return Ok(());
     }
-    Verdict::Refused(Refusal::CountsDisagree)
+    Err(Refusal::CountsDisagree)
 }
 
 // 3: x or z of a vertex is above 32,767.
-fn check_high(numbers: &[u16], n: usize) -> Verdict
+fn check_high(numbers: &[u16], n: usize) -> Result<(), Refusal>
     requires { n * job_stride ≤ length numbers.now }
     ensures { result ≡ verdict_of (refuse_at HighCoordinate (first_high_in numbers.now n)) }
 {
-    match first_high(numbers, n) {
-        Some(k) => Verdict::Refused(Refusal::HighCoordinate(k as u64)),
-        None => Verdict::Passed,
+    if let Some(k) = first_high(numbers, n) {
+        return Err(Refusal::HighCoordinate(k as u64));
     }
+    Ok(())
 }
 
 // 4: the flag of a vertex is neither 0 nor 1.
-fn check_flags(numbers: &[u16], n: usize) -> Verdict
+fn check_flags(numbers: &[u16], n: usize) -> Result<(), Refusal>
     requires { n * job_stride ≤ length numbers.now }
     ensures { result ≡ verdict_of (refuse_at BadFlag (first_bad_flag_in numbers.now n)) }
 {
-    match first_bad_flag(numbers, n) {
-        Some(k) => Verdict::Refused(Refusal::BadFlag(k as u64)),
-        None => Verdict::Passed,
+    if let Some(k) = first_bad_flag(numbers, n) {
+        return Err(Refusal::BadFlag(k as u64));
     }
+    Ok(())
 }
 
 // 5: V is above 65,535.
-fn check_v(v: usize) -> Verdict
+fn check_v(v: usize) -> Result<(), Refusal>
     ensures { result ≡ verdict_of (refuse_if (ltb 65535 v) (TooManyVertices v)) }
 {
     if 65535 < v {
-        return Verdict::Refused(Refusal::TooManyVertices(v as u64));
+        return Err(Refusal::TooManyVertices(v as u64));
     }
-    Verdict::Passed
+    Ok(())
 }
 
 // 6: a lent buffer is too short.
-fn check_room(nvp: u32, v: usize, t: usize, have: [usize; BUFFERS]) -> Verdict
+fn check_room(nvp: u32, v: usize, t: usize, have: [usize; BUFFERS]) -> Result<(), Refusal>
     requires { Sized nvp v t }
     ensures { result ≡ verdict_of (refuse_at ShortBuffer (first_short have (least_of nvp v t))) }
 {
-    match first_short(have, least_lengths(nvp, v, t)) {
-        Some(k) => Verdict::Refused(Refusal::ShortBuffer(k as u64)),
-        None => Verdict::Passed,
+    if let Some(k) = first_short(have, least_lengths(nvp, v, t)) {
+        return Err(Refusal::ShortBuffer(k as u64));
     }
+    Ok(())
 }
 
 // Replies 1 to 6 for a job with these numbers, whatever its grid and its border are; `have` are the lengths of the lent
@@ -99,28 +82,15 @@ pub fn check(
     codes: &[u8],
     numbers: &[u16],
     have: [usize; BUFFERS],
-) -> Verdict
+) -> Result<(), Refusal>
     ensures { (w h border : ℕ) → result ≡ verdict_of (check (job_of nvp w h border lengths.now regions.now codes.now numbers.now) have) }
 {
-    let limit = check_nvp(nvp);
-    let Verdict::Passed = limit else {
-        return limit;
-    };
-    let counts = check_counts(lengths, regions, codes, numbers);
-    let Verdict::Passed = counts else {
-        return counts;
-    };
+    check_nvp(nvp)?;
+    check_counts(lengths, regions, codes, numbers)?;
     let n = count_all(lengths);
-    let high = check_high(numbers, n);
-    let flags = check_flags(numbers, n);
-    let vertices = or_next(high, flags);
-    let Verdict::Passed = vertices else {
-        return vertices;
-    };
+    check_high(numbers, n)?;
+    check_flags(numbers, n)?;
     let v = count_v(lengths);
-    let many = check_v(v);
-    let Verdict::Passed = many else {
-        return many;
-    };
+    check_v(v)?;
     check_room(nvp, v, count_t(lengths), have)
 }

@@ -1,5 +1,6 @@
 -- One contour is added, step by step: what each step asks for, and what stands in the buffer after it. Assumes nothing.
 -- Key: `stuck_words`: the mesh is as it was; `add_words` and `add_answer`: what all steps come to.
+use Rattle.std.specs.Prelude.{Ok, Err}
 use mathlib.Core.Path.{◌≡◌, refl, sym, ap, ◌∙◌}
 use mathlib.Core.List.{List, [], ◌++◌}
 use Prim.Native.Nat.{ℕ, ◌+◌, ◌-◌, ◌*◌, ◌^◌, ◌≤◌, ◌<◌}
@@ -29,11 +30,11 @@ use Rattle.holes.specs.Small.{small_good}
 use Rattle.polys.specs.Rows.{row_size, wiped}
 use Rattle.contours.specs.declared.ground.Ground.{Ground}
 use Rattle.contours.specs.declared.ground.Contour.{Contour}
-use Rattle.contours.specs.declared.add.Added.TheVariants.{To, NoEar}
+use Rattle.ears.specs.declared.cut.NoEar.{NoEar}
 use Rattle.contours.specs.Cutting.{places_in, CutReady}
 use Rattle.contours.specs.Shaping.{MeshReady, contour_polygons, MeshedTo}
 use Rattle.contours.specs.Ground.{tables_of, ground_in, mesh_at, Fits}
-use Rattle.contours.specs.Adding.{AddReady, grown_by, added_of}
+use Rattle.contours.specs.Adding.{AddReady, grown_by, added_of, counts}
 use Rattle.contours.proofs.Cuts.{all_three, triangle_count, triangles_there, long_cut}
 use Rattle.contours.proofs.Stages.{Stage, room_in, stage_size, in_cutting, tables_stand, vertices_stand, marks_stand, write_cutting, wipe_cutting, wipe_numbers, more_polygons, write_tables, mesh_stage, stage_mesh}
 
@@ -92,13 +93,13 @@ module _ {w ns : List ℕ} {g : Ground} {nv np nvp : ℕ} {c : Contour} (r : Add
       cut_stage = write_cutting f few start refl (e ∙ rw d refl) (omega (arith, long_C, r.vertices))
 
     -- it has no ear
-    module _ {k : ℕ} (d : triangulate (places_in ns c.first c.n) ≡ stuck k) where
+    module _ {no : NoEar} (d : triangulate (places_in ns c.first c.n) ≡ stuck no.after) where
       pub stuck_words : {x : List ℕ} → x ≡ splice u (g.scratch + g.v) (replicate (c.n * 6 - 6) 0)
           → x ≡ ground_in (length w) g (grown_by nvp ns c (mesh_at w g nv np) (triangulate (places_in ns c.first c.n)))
       unfolding grown_by P
-      stuck_words q = rw d (stage_mesh (mesh_at w g nv np) (wipe_cutting f few (cut_stage (stuck k) d) (c.n * 6 - 6) (long_C (stuck k) d) q))
+      stuck_words q = rw d (stage_mesh (mesh_at w g nv np) (wipe_cutting f few (cut_stage (stuck no.after) d) (c.n * 6 - 6) (long_C (stuck no.after) d) q))
 
-      pub stuck_answer : NoEar k ≡ added_of (grown_by nvp ns c (mesh_at w g nv np) (triangulate (places_in ns c.first c.n))) (triangulate (places_in ns c.first c.n))
+      pub stuck_answer : Err no ≡ added_of (grown_by nvp ns c (mesh_at w g nv np) (triangulate (places_in ns c.first c.n))) (triangulate (places_in ns c.first c.n))
       unfolding added_of
       stuck_answer = rw d refl
 
@@ -251,7 +252,7 @@ module _ {w ns : List ℕ} {g : Ground} {nv np nvp : ℕ} {c : Contour} (r : Add
               (ea ∙ ap (λ (i : List ℕ). splice i g.scratch ys) et ∙ sym (splice_comm z g.scratch po ys xs (omega (arith, r.vertices))))
               ∙ splice_over (splice z g.scratch ys) po xs zs (omega (arith, lx, lz, q, many, r.some)))
 
-          pub add_answer : To v (np + p) ≡ added_of (grown_by nvp ns c (mesh_at w g nv np) (triangulate (places_in ns c.first c.n))) (triangulate (places_in ns c.first c.n))
+          pub add_answer : Ok (counts v (np + p)) ≡ added_of (grown_by nvp ns c (mesh_at w g nv np) (triangulate (places_in ns c.first c.n))) (triangulate (places_in ns c.first c.n))
           unfolding added_of grown_by add_contour contour_polygons new S
           add_answer =
               let n : np + p ≡ length (polygons_at w g.polygons np ++ new) = simp length-append (omega (arith, new_count, length_polygons w g.polygons np)) in

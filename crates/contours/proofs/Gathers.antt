@@ -1,6 +1,7 @@
 -- All contours, one after the other: the mesh in the buffer is the rules' after so many contours, and what is left of the sums over the contours says that
 -- there is room for the next. Assumes nothing.
 -- Key: `going_more`: one contour more; `going_stuck` and `going_end`: what all comes to.
+use Rattle.std.specs.Prelude.{Result, Ok, Err}
 use mathlib.Core.Path.{◌≡◌, refl, sym, ap, ◌∙◌}
 use mathlib.Core.List.{List, []}
 use mathlib.Core.Logic.{⊎_elim}
@@ -36,13 +37,13 @@ use Rattle.weld.specs.Tables.{bucket_count, tabled}
 use Rattle.weld.specs.Standing.{tabled_none, length_tabled}
 use Rattle.contours.specs.declared.ground.Ground.{Ground}
 use Rattle.contours.specs.declared.ground.Contour.{Contour}
-use Rattle.contours.specs.declared.add.Added.{Added}
-use Rattle.contours.specs.declared.add.Added.TheVariants.{To, NoEar}
-use Rattle.contours.specs.declared.gather.Gathered.TheVariants.{Mesh as Built, NoEar as NoEarIn}
+use Rattle.records.specs.declared.counts.Counts.{Counts}
+use Rattle.ears.specs.declared.cut.NoEar.{NoEar}
+use Rattle.ears.specs.Part.{no_ear}
 use Rattle.contours.specs.Cutting.{places_in}
 use Rattle.contours.specs.Ground.{tables_of, ground_in, mesh_at, Fits, Stands}
-use Rattle.contours.specs.Adding.{AddReady, grown_by, added_of}
-use Rattle.contours.specs.Gathering.{contour_in, NextReady, next_mesh, next_answer, GatherReady, gathered_of, mesh_of}
+use Rattle.contours.specs.Adding.{AddReady, grown_by, counts, added_of}
+use Rattle.contours.specs.Gathering.{contour_in, NextReady, next_mesh, next_answer, GatherReady, no_ear_of, gathered_of, mesh_of}
 use Rattle.contours.proofs.Stages.{Stage, zeros_in, vertices_stand, marks_stand, polygons_stand, mesh_stage}
 use Rattle.holes.specs.Small.{small_good}
 
@@ -70,7 +71,7 @@ module _ (nvp : ℕ) (ns : List ℕ) (c : Contour) (m : Mesh) where
   unfolding next_mesh
   mesh_skip h = rw (lt-ltb c.n 3 h, next_mesh) refl
 
-  answer_skip : c.n < 3 → next_answer nvp ns c m ≡ To (length m.vertices) (length m.polygons)
+  answer_skip : c.n < 3 → next_answer nvp ns c m ≡ Ok (counts (length m.vertices) (length m.polygons))
   unfolding next_answer
   answer_skip h = rw (lt-ltb c.n 3 h, next_answer) refl
 
@@ -84,7 +85,7 @@ module _ (nvp : ℕ) (ns : List ℕ) (c : Contour) (m : Mesh) where
   answer_cut h = rw (le-ltb c.n 3 h, next_answer) refl
 
 module _ {w ns : List ℕ} {g : Ground} {nv np nvp : ℕ} {c : Contour} (r : NextReady w ns g nv np nvp c) (h : c.n < 3) where
-  pub skipped_answer : To nv np ≡ next_answer nvp ns c (mesh_at w g nv np)
+  pub skipped_answer : Ok (counts nv np) ≡ next_answer nvp ns c (mesh_at w g nv np)
   skipped_answer = rw (answer_skip nvp ns c (mesh_at w g nv np) h, length_vertices w g.vertices nv, length_polygons w g.polygons np) refl
 
   pub skipped_words : w ≡ ground_in (length w) g (next_mesh nvp ns c (mesh_at w g nv np))
@@ -92,7 +93,7 @@ module _ {w ns : List ℕ} {g : Ground} {nv np nvp : ℕ} {c : Contour} (r : Nex
 
 -- what `add_contour` ensures, of a contour that isn't skipped
 module _ (nvp : ℕ) (ns : List ℕ) (c : Contour) (m : Mesh) (h : 3 ≤ c.n) where
-  pub cut_answer : {a : Added} → a ≡ added_of (grown_by nvp ns c m (triangulate (places_in ns c.first c.n))) (triangulate (places_in ns c.first c.n))
+  pub cut_answer : {a : Result Counts NoEar} → a ≡ added_of (grown_by nvp ns c m (triangulate (places_in ns c.first c.n))) (triangulate (places_in ns c.first c.n))
       → a ≡ next_answer nvp ns c m
   cut_answer e = e ∙ sym (answer_cut nvp ns c m h)
 
@@ -101,19 +102,22 @@ module _ (nvp : ℕ) (ns : List ℕ) (c : Contour) (m : Mesh) (h : 3 ≤ c.n) wh
   cut_words_lem g w e = e ∙ ap (ground_in (length w) g) (sym (mesh_cut nvp ns c m h))
 
 -- what an answer says
-to_vertices : {a b x y : ℕ} → To a b ≡ To x y → a ≡ x
-to_vertices e = cc
+abbrev Answer : Type 0
+Answer = Result Counts NoEar
 
-to_polygons : {a b x y : ℕ} → To a b ≡ To x y → b ≡ y
-to_polygons e = cc
+to_vertices : {a b x y : ℕ} → ◌≡◌ {A = Answer} (Ok (counts a b)) (Ok (counts x y)) → a ≡ x
+to_vertices {a} {b} {x} {y} e = let z : counts a b ≡ counts x y = cc in ap (λ (n : Counts). n.vertices) z
 
-no_skip : (i a b : ℕ) → NoEar i ≡ To a b → ⊥
-no_skip i a b e = let z : ◌≡◌ {A = ℕ} 0 1 = cc in omega arith
+to_polygons : {a b x y : ℕ} → ◌≡◌ {A = Answer} (Ok (counts a b)) (Ok (counts x y)) → b ≡ y
+to_polygons {a} {b} {x} {y} e = let z : counts a b ≡ counts x y = cc in ap (λ (n : Counts). n.polygons) z
 
-cut_stuck : (m : Mesh) (t : Ears) (i : ℕ) → NoEar i ≡ added_of m t → t ≡ stuck i
+no_skip : (i : NoEar) (n : Counts) → ◌≡◌ {A = Answer} (Err i) (Ok n) → ⊥
+no_skip i n e = cc
+
+cut_stuck : (m : Mesh) (t : Ears) (i : NoEar) → Err i ≡ added_of m t → t ≡ stuck i.after
 unfolding added_of
-cut_stuck m (done ts) i e = absurd (no_skip i _ _ e)
-cut_stuck m (stuck k) i e = cc
+cut_stuck m (done ts) i e = absurd (no_skip i _ e)
+cut_stuck m (stuck k) i e = let z : i ≡ no_ear k = cc in sym (ap (λ (x : NoEar). stuck x.after) z)
 
 -- ---- so many contours
 
@@ -220,7 +224,7 @@ module _ {w₀ : List ℕ} {g : Ground} {j : Job} (r : GatherReady w₀ g j) whe
       }
 
       -- a contour that is skipped
-      going_skip : {u : List ℕ} {v p : ℕ} → get_or j.lengths c 0 < 3 → To v p ≡ To (length s.m.vertices) (length s.m.polygons) → u ≡ ground_in (length w₀) g s.m
+      going_skip : {u : List ℕ} {v p : ℕ} → get_or j.lengths c 0 < 3 → ◌≡◌ {A = Answer} (Ok (counts v p)) (Ok (counts (length s.m.vertices) (length s.m.polygons))) → u ≡ ground_in (length w₀) g s.m
           → Going w₀ g j u v p (first + get_or j.lengths c 0) (c + 1)
       going_skip l a b =
           going_to s.m (to_vertices a) (to_polygons a) b s.sound (rw (lt-leb 3 (get_or j.lengths c 0) l) (omega arith)) (rw (lt-leb 3 (get_or j.lengths c 0) l) (omega arith)) (adds.skip h l)
@@ -245,11 +249,11 @@ module _ {w₀ : List ℕ} {g : Ground} {j : Job} (r : GatherReady w₀ g j) whe
 
         -- it is cut like this
         going_cut : (t : Ears) → triangulate (places_in j.numbers first (get_or j.lengths c 0)) ≡ t → {u : List ℕ} {v p : ℕ}
-            → To v p ≡ added_of (grown_by j.nvp j.numbers (contour_in j.lengths j.regions j.codes c first) s.m t) t
+            → Ok (counts v p) ≡ added_of (grown_by j.nvp j.numbers (contour_in j.lengths j.regions j.codes c first) s.m t) t
             → u ≡ ground_in (length w₀) g (grown_by j.nvp j.numbers (contour_in j.lengths j.regions j.codes c first) s.m t)
             → Going w₀ g j u v p (first + get_or j.lengths c 0) (c + 1)
         unfolding grown_by added_of
-        going_cut (stuck i) d a b = absurd (no_skip i _ _ (sym a))
+        going_cut (stuck i) d a b = absurd (no_skip (no_ear i) _ (sym a))
         going_cut (done ts) d a b =
             let n = get_or j.lengths c 0 in
             let vs = contour_vertices j.numbers first n in
@@ -267,11 +271,11 @@ module _ {w₀ : List ℕ} {g : Ground} {j : Job} (r : GatherReady w₀ g j) whe
         pub going_first : first + k.n ≤ length j.numbers
         going_first = rw ek (omega (arith, passed_over, lists.numbers))
 
-        pub going_more : {u : List ℕ} {v p : ℕ} → To v p ≡ next_answer j.nvp j.numbers k (mesh_at w g nv np)
+        pub going_more : {u : List ℕ} {v p : ℕ} → Ok (counts v p) ≡ next_answer j.nvp j.numbers k (mesh_at w g nv np)
             → u ≡ ground_in (length w) g (next_mesh j.nvp j.numbers k (mesh_at w g nv np)) → Going w₀ g j u v p (first + k.n) (c + 1)
         going_more {u} {v} {p} a b =
             let K = contour_in j.lengths j.regions j.codes c first in
-            let a' : To v p ≡ next_answer j.nvp j.numbers K s.m = rw (ek, mesh_is) at a in
+            let a' : Ok (counts v p) ≡ next_answer j.nvp j.numbers K s.m = rw (ek, mesh_is) at a in
             let b' : u ≡ ground_in (length w₀) g (next_mesh j.nvp j.numbers K s.m) = rw (ek, mesh_is, s.size) at b in
             rw ek (⊎_elim
             (λ (l : get_or j.lengths c 0 < 3). going_skip l (a' ∙ answer_skip j.nvp j.numbers K s.m l) (b' ∙ ap (ground_in (length w₀) g) (mesh_skip j.nvp j.numbers K s.m l)))
@@ -279,27 +283,27 @@ module _ {w₀ : List ℕ} {g : Ground} {j : Job} (r : GatherReady w₀ g j) whe
             (a' ∙ answer_cut j.nvp j.numbers K s.m l) (b' ∙ ap (ground_in (length w₀) g) (mesh_cut j.nvp j.numbers K s.m l)))
             (lt_or_le (get_or j.lengths c 0) 3))
 
-        going_none : {i : ℕ} → NoEar i ≡ next_answer j.nvp j.numbers k (mesh_at w g nv np) → add_all j ≡ no_ear_in c i
+        going_none : {i : NoEar} → Err i ≡ next_answer j.nvp j.numbers k (mesh_at w g nv np) → add_all j ≡ no_ear_in c i.after
         going_none {i} a =
             let K = contour_in j.lengths j.regions j.codes c first in
-            let a' : NoEar i ≡ next_answer j.nvp j.numbers K s.m = rw (ek, mesh_is) at a in
+            let a' : Err i ≡ next_answer j.nvp j.numbers K s.m = rw (ek, mesh_is) at a in
             s.same ∙ ⊎_elim
-            (λ (l : get_or j.lengths c 0 < 3). absurd (no_skip i _ _ (a' ∙ answer_skip j.nvp j.numbers K s.m l)))
-            (λ (l : 3 ≤ get_or j.lengths c 0). adds.none h l i (cut_stuck _ (triangulate (places_in j.numbers first (get_or j.lengths c 0))) i
+            (λ (l : get_or j.lengths c 0 < 3). absurd (no_skip i _ (a' ∙ answer_skip j.nvp j.numbers K s.m l)))
+            (λ (l : 3 ≤ get_or j.lengths c 0). adds.none h l i.after (cut_stuck _ (triangulate (places_in j.numbers first (get_or j.lengths c 0))) i
             (a' ∙ answer_cut j.nvp j.numbers K s.m l)))
             (lt_or_le (get_or j.lengths c 0) 3)
 
         -- the whole buffer is wiped
-        pub going_stuck : {i : ℕ} {u x : List ℕ} → NoEar i ≡ next_answer j.nvp j.numbers k (mesh_at w g nv np)
+        pub going_stuck : {i : NoEar} {u x : List ℕ} → Err i ≡ next_answer j.nvp j.numbers k (mesh_at w g nv np)
             → u ≡ ground_in (length w) g (next_mesh j.nvp j.numbers k (mesh_at w g nv np)) → x ≡ splice u 0 (replicate (length u) 0)
-            → (NoEarIn c i ≡ gathered_of (add_all j)) × (x ≡ ground_in (length w₀) g (mesh_of (add_all j)))
+            → (Err (no_ear_of c i.after) ≡ gathered_of (add_all j)) × (x ≡ ground_in (length w₀) g (mesh_of (add_all j)))
         unfolding gathered_of mesh_of
         going_stuck {i} {u} {x} a b e =
             let d = going_none a in
             let l : length u ≡ length w = ap length b ∙ ground_size (length w) g (next_mesh j.nvp j.numbers k (mesh_at w g nv np)) in
             (rw d refl, rw d (e ∙ splice_whole u (replicate (length u) 0) (length-replicate (length u) 0) ∙ rw (l, s.size) (sym (ground_none (length w₀) g r.fits))))
 
-    pub going_end : length j.lengths ≤ c → (Built nv np ≡ gathered_of (add_all j)) × (w ≡ ground_in (length w₀) g (mesh_of (add_all j)))
+    pub going_end : length j.lengths ≤ c → (Ok (counts nv np) ≡ gathered_of (add_all j)) × (w ≡ ground_in (length w₀) g (mesh_of (add_all j)))
     unfolding gathered_of mesh_of
     going_end h =
         let d : add_all j ≡ added s.m = s.same ∙ (adding_turns j c first s.m).end h in

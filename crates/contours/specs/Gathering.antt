@@ -1,6 +1,6 @@
 -- What the functions that add all contours ask for, and what they answer and leave. Assumes nothing.
 -- Key: `same_contours`: for the contours the grid and the border don't matter.
-use Rattle.std.specs.Prelude.{◌≡◌, Bool, List, length, replicate}
+use Rattle.std.specs.Prelude.{◌≡◌, Bool, List, length, replicate, Result, Ok, Err}
 use Rattle.std.proofs.Math.Path.{refl, sym}
 use Rattle.std.proofs.Common.{◌∙◌}
 use Rattle.std.proofs.Math.Bool.{true, false}
@@ -16,13 +16,12 @@ use Rattle.laws.proofs.Contours.{add_skip, add_stuck, add_done}
 use Rattle.checks.specs.Answers.{job_of}
 use Rattle.contours.specs.declared.ground.Ground.{Ground}
 use Rattle.contours.specs.declared.ground.Contour.{Contour}
-use Rattle.contours.specs.declared.add.Added.{Added}
-use Rattle.contours.specs.declared.add.Added.TheVariants.{To}
-use Rattle.contours.specs.declared.gather.Gathered.{Gathered}
-use Rattle.contours.specs.declared.gather.Gathered.TheVariants.{Mesh as Built, NoEar}
+use Rattle.records.specs.declared.counts.Counts.{Counts}
+use Rattle.ears.specs.declared.cut.NoEar.{NoEar}
+use Rattle.contours.specs.declared.gather.NoEarIn.{NoEarIn}
 use Rattle.contours.specs.Cutting.{places_in}
 use Rattle.contours.specs.Ground.{Fits, Stands}
-use Rattle.contours.specs.Adding.{AddReady, grown_by, added_of}
+use Rattle.contours.specs.Adding.{AddReady, grown_by, counts, added_of}
 
 -- ---- one contour, which may be skipped
 
@@ -40,9 +39,9 @@ unfoldable pub next_mesh : ℕ → List ℕ → Contour → Mesh → Mesh
 next_mesh nvp ns c m = elim (ltb c.n 3) [ true ↦ m | false ↦ grown_by nvp ns c m (triangulate (places_in ns c.first c.n)) ]
 
 -- and the answer
-unfoldable pub next_answer : ℕ → List ℕ → Contour → Mesh → Added
+unfoldable pub next_answer : ℕ → List ℕ → Contour → Mesh → Result Counts NoEar
 next_answer nvp ns c m = elim (ltb c.n 3) [
-  | true ↦ To (length m.vertices) (length m.polygons)
+  | true ↦ Ok (counts (length m.vertices) (length m.polygons))
   | false ↦ added_of (grown_by nvp ns c m (triangulate (places_in ns c.first c.n))) (triangulate (places_in ns c.first c.n))
 ]
 
@@ -57,10 +56,14 @@ pub record GatherReady (w : List ℕ) (g : Ground) (j : Job) : Type 0 where
   pub v : g.v ≡ count_v j
   pub t : g.t ≡ count_t j
 
+-- contour c has no ear to cut, after k triangles
+abbrev pub no_ear_of : ℕ → ℕ → NoEarIn
+no_ear_of c k = record { contour = c; after = k }
+
 -- the answer, for each of the rules' cases
-unfoldable pub gathered_of : Contours → Gathered
-gathered_of (added m) = Built (length m.vertices) (length m.polygons)
-gathered_of (no_ear_in c k) = NoEar c k
+unfoldable pub gathered_of : Contours → Result Counts NoEarIn
+gathered_of (added m) = Ok (counts (length m.vertices) (length m.polygons))
+gathered_of (no_ear_in c k) = Err (no_ear_of c k)
 
 -- the mesh that is left in the buffer
 unfoldable pub mesh_of : Contours → Mesh

@@ -8,7 +8,8 @@ ghost use Rattle.contours.specs.Adding.{AddReady, grown_by, added_of};
 use crate::cut::cut_contour;
 use crate::ground::{Contour, Ground};
 use crate::shape::mesh_contour;
-use ears::cut::Triangulation;
+use ears::cut::NoEar;
+use records::counts::Counts;
 use records::polygon::POLYGON_SIZE;
 use weld::contour::weld_contour;
 use weld::find::Tables;
@@ -17,15 +18,9 @@ use words::fill::fill;
 // Vertices whose heights differ by at most this much are welded.
 const WELD_HEIGHT: u16 = 2;
 
-// A contour was added, and the mesh has so many vertices and polygons; or it has no ear to cut, after so many triangles.
-#[derive(Clone, Copy)]
-pub enum Added {
-    To(usize, usize),
-    NoEar(usize),
-}
-
 // The contour c of a job's numbers is cut, its vertices are welded to the nv of the mesh at g, and its triangles are merged
-// and stored behind the np polygons. A contour without an ear leaves the mesh as it was.
+// and stored behind the np polygons. The result says how many the mesh has then. A contour without an ear leaves the mesh as
+// it was.
 pub fn add_contour(
     work: &mut [u32],
     g: Ground,
@@ -34,14 +29,14 @@ pub fn add_contour(
     nvp: usize,
     numbers: &[u16],
     c: Contour,
-) -> Added
+) -> Result<Counts, NoEar>
     requires { AddReady work.old numbers.now g nv np nvp c }
     ensures answer { result ≡ added_of (grown_by nvp numbers.now c (mesh_at work.old g nv np) (Rules.triangulate (places_in numbers.now c.first c.n))) (Rules.triangulate (places_in numbers.now c.first c.n)) }
     ensures words { work.new ≡ ground_in (length work.old) g (grown_by nvp numbers.now c (mesh_at work.old g nv np) (Rules.triangulate (places_in numbers.now c.first c.n))) }
 {
     let po = g.scratch + g.v;
     match cut_contour(work, numbers, c.first, c.n, po) {
-        Triangulation::Done(k) => {
+        Ok(k) => {
             let t = Tables {
                 buckets: g.buckets,
                 vertices: g.vertices,
@@ -53,11 +48,14 @@ pub fn add_contour(
             let p = mesh_contour(work, g.vertices, v, at, g.scratch, to, k, nvp, po, c);
             fill(work, g.scratch, c.n, 0);
             fill(work, po, c.n * 6 - 6, 0);
-            return Added::To(v, np + p);
+            Ok(Counts {
+                vertices: v,
+                polygons: np + p,
+            })
         }
-        Triangulation::Stuck(k) => {
+        Err(e) => {
             fill(work, po, c.n * 6 - 6, 0);
-            return Added::NoEar(k);
+            Err(e)
         }
     }
 }

@@ -10,7 +10,7 @@ ghost use Rattle.holes.specs.Fill.{place_words, cut_words};
 ghost use Rattle.contours.specs.Cutting.{places_in, LayReady, CutReady};
 
 use checks::counts::JOB_STRIDE;
-use ears::cut::{Triangulation, triangulate};
+use ears::cut::{NoEar, triangulate};
 use rules::Point;
 
 // Where vertex k of a job stands.
@@ -44,7 +44,7 @@ pub fn cut_contour(
     first: usize,
     n: usize,
     po: usize,
-) -> Triangulation
+) -> Result<usize, NoEar>
     requires { CutReady work.old numbers.now first n po }
     ensures answer { result ≡ answer_of (Rules.triangulate (places_in numbers.now first n)) }
     ensures words { work.new ≡ splice work.old po (cut_words n (places_in numbers.now first n) (Rules.triangulate (places_in numbers.now first n))) }

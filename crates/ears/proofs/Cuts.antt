@@ -1,5 +1,7 @@
 -- Ears are cut one after the other: what a turn comes to, what the loop keeps, and how the triangles in the buffer are those of the rules.
 -- Assumes nothing.
+use Rattle.std.specs.Prelude.{Option, Some, None, is_some, Result, Ok, Err}
+use Rattle.std.proofs.lemmas.Bool.{false≢true}
 use mathlib.Core.Path.{◌≡◌, refl, sym, ap, ◌∙◌}
 use mathlib.Core.Bool.{true, false}
 use mathlib.Core.List.{List, [], ◌∷◌, ◌++◌, append-nil}
@@ -17,34 +19,30 @@ use Rattle.laws.proofs.Ears.{ear_in, length_cut, length_indices, length_marked}
 use Rattle.laws.proofs.CutTurns.{triangles_counted}
 use Rattle.laws.proofs.Fuel.{cutting_turns, cut_from_the_start}
 use Rattle.plane.specs.Points.{points_in}
-use Rattle.ears.specs.Part.{points_of, Laid, answer_of, cut_in, Ready}
+use Rattle.ears.specs.Part.{points_of, Laid, no_ear, answer_of, cut_in, Ready}
 use Rattle.ears.specs.Turn.{cut_once, ears_at, AllCut}
-use Rattle.ears.specs.declared.cut.Triangulation.{Triangulation}
-use Rattle.ears.specs.declared.cut.Triangulation.TheVariants.{Done, Stuck}
+use Rattle.ears.specs.declared.cut.NoEar.{NoEar}
 use Rattle.ears.proofs.Rings.{length_points, ring_cut, ring_marked, ring_indices}
 use Rattle.ears.proofs.Parts.{put_front, put_words, put_ready, only_front, only_words, only_ready}
 
 -- ---- one turn: e is the ear, u the buffer with its triangle, and x the buffer without it
-module _ (w : List ℕ) (a m t : ℕ) {e : Ear} (r : Ready a m w) (p : e ≡ find_ear (points_in (take a w)) (view w a m)) where
-  pub ear_place : e.any ≡ true → e.at < m
-  ear_place q =
-      let h = ear_in (points_in (take a w)) (view w a m) (ap (λ (x : Ear). x.any) (sym p) ∙ q) in
-      rw p (omega (arith, h, length_view w a m r.room))
+module _ (w : List ℕ) (a m t : ℕ) {o : Option Ear} (r : Ready a m w) (p : o ≡ find_ear (points_in (take a w)) (view w a m)) where
+  pub ear_place : (e : Ear) → o ≡ Some e → e.at < m
+  ear_place e q =
+      let h = ear_in (points_in (take a w)) (view w a m) e (sym p ∙ q) in
+      omega (arith, h, length_view w a m r.room)
 
-  pub turned : {u x : List ℕ} → a + m ≤ t → e.any ≡ true → u ≡ splice w t (triangle_at (view w a m) e.at)
+  pub turned : {u x : List ℕ} (e : Ear) → a + m ≤ t → o ≡ Some e → u ≡ splice w t (triangle_at (view w a m) e.at)
       → x ≡ splice u a (cut_ear (points_in (take a u)) e.at (view u a m) ++ (0 ∷ [])) → x ≡ cut_once a m t w
   unfolding cut_once
-  turned {u} {x} h q f g =
-      let any : (find_ear (points_in (take a w)) (view w a m)).any ≡ true = ap (λ (x : Ear). x.any) (sym p) ∙ q in
+  turned {u} {x} e h q f g =
       let s = take_splice w t a (triangle_at (view w a m) e.at) (omega arith) in
       let v = view_before w t a m (triangle_at (view w a m) e.at) h in
-      rw (any, cut_once, ← p) (rw (f, s, v) at g)
+      rw (← p, q, cut_once) (rw (f, s, v) at g)
 
-  pub still : e.any ≡ false → w ≡ cut_once a m t w
+  pub still : o ≡ None → w ≡ cut_once a m t w
   unfolding cut_once
-  still q =
-      let none : (find_ear (points_in (take a w)) (view w a m)).any ≡ false = ap (λ (x : Ear). x.any) (sym p) ∙ q in
-      rw (none, cut_once) refl
+  still q = rw (← p, q, cut_once) refl
 
 -- words are written past the index words
 pub far_ready : (w : List ℕ) {u : List ℕ} (a m t : ℕ) (xs : List ℕ) → Ready a m w → a + m ≤ t → u ≡ splice w t xs → Ready a m u
@@ -68,12 +66,10 @@ pub cuts_none : {a n : ℕ} {v : List ℕ} → Ready a n v → 3 ≤ n → Cuts 
 unfolding blocks tab
 cuts_none r h = record { ready = r; long = refl; front = refl; least = h; whole = omega arith; rest = refl }
 
-cut_words_lem : (a m t : ℕ) (w : List ℕ) → (find_ear (points_in (take a w)) (view w a m)).any ≡ true
-    → cut_once a m t w
-    ≡ splice (splice w t (triangle_at (view w a m) (find_ear (points_in (take a w)) (view w a m)).at)) a
-    (cut_ear (points_in (take a w)) (find_ear (points_in (take a w)) (view w a m)).at (view w a m) ++ (0 ∷ []))
+cut_words_lem : (a m t : ℕ) (w : List ℕ) (e : Ear) → find_ear (points_in (take a w)) (view w a m) ≡ Some e
+    → cut_once a m t w ≡ splice (splice w t (triangle_at (view w a m) e.at)) a (cut_ear (points_in (take a w)) e.at (view w a m) ++ (0 ∷ []))
 unfolding cut_once
-cut_words_lem a m t w q = rw (q, cut_once) refl
+cut_words_lem a m t w e q = rw (q, cut_once) refl
 
 three : (ws : List ℕ) (i : ℕ) → length (triangle_at ws i) ≡ 3
 unfolding triangle_at
@@ -87,12 +83,12 @@ out_more w xs tri a o count e h f =
 
 module _ {a n : ℕ} {v w : List ℕ} {m count : ℕ} (s : Cuts a n v w m count) (room : a + n + (n - 2) * 3 ≤ length v) where
   -- one more
-  pub cuts_more : {x : List ℕ} → 3 < m → (find_ear (points_in (take a w)) (view w a m)).any ≡ true → x ≡ cut_once a m (a + n + count * 3) w
+  cuts_on : {x : List ℕ} (e : Ear) → 3 < m → find_ear (points_in (take a w)) (view w a m) ≡ Some e → x ≡ cut_once a m (a + n + count * 3) w
       → Cuts a n v x (m - 1) (count + 1)
-  cuts_more {x} h q e =
+  cuts_on {x} ear h q e =
       let ps = points_in (take a w) in
       let ws = view w a m in
-      let i = (find_ear ps ws).at in
+      let i = ear.at in
       let t = a + n + count * 3 in
       let u = splice w t (triangle_at ws i) in
       let r = s.ready in
@@ -103,7 +99,7 @@ module _ {a n : ℕ} {v w : List ℕ} {m count : ℕ} (s : Cuts a n v w m count)
       let both = length-append (cut_ear ps i ws) (0 ∷ []) in
       let wide = length_splice w t (triangle_at ws i) in
       let fits : a + (m - 1) ≤ length u = omega (arith, r.room) in
-      let f : x ≡ splice u a (cut_ear ps i ws ++ (0 ∷ [])) = e ∙ cut_words_lem a m t w q in
+      let f : x ≡ splice u a (cut_ear ps i ws ++ (0 ∷ [])) = e ∙ cut_words_lem a m t w ear q in
       let same : take a u ≡ take a w = take_splice w t a (triangle_at ws i) (omega arith) in
       let first : take a x ≡ take a w = put_front u a (m - 1) (cut_ear ps i ws) (0 ∷ []) f cut fits ∙ same in
       let out : blocks (λ t. t) x (a + n) 3 (count + 1) ≡ blocks (λ t. t) w (a + n) 3 count ++ (triangle_at ws i ∷ []) = rw f
@@ -116,14 +112,23 @@ module _ {a n : ℕ} {v w : List ℕ} {m count : ℕ} (s : Cuts a n v w m count)
         whole = omega arith;
         rest =
             rw (first, put_words u a (m - 1) (cut_ear ps i ws) (0 ∷ []) f cut fits, out)
-            (s.rest ∙ (cutting_turns ps ws (blocks (λ t. t) w (a + n) 3 count)).cut (omega arith) q);
+            (s.rest ∙ (cutting_turns ps ws (blocks (λ t. t) w (a + n) 3 count)).cut ear (omega arith) q);
       }
 
+  pub cuts_more : {x : List ℕ} → 3 < m → is_some (find_ear (points_in (take a w)) (view w a m)) ≡ true → x ≡ cut_once a m (a + n + count * 3) w
+      → Cuts a n v x (m - 1) (count + 1)
+  cuts_more {x} h q e =
+      (elim (find_ear (points_in (take a w)) (view w a m)) as
+      (λ (o : Option Ear). find_ear (points_in (take a w)) (view w a m) ≡ o → is_some o ≡ true → Cuts a n v x (m - 1) (count + 1)) [
+        | Some ear ↦ λ p t. cuts_on ear h p e
+        | None ↦ λ p t. absurd (false≢true t)
+      ]) refl q
+
   -- no ear
-  pub cuts_stuck : {x : List ℕ} → 3 < m → (find_ear (points_in (take a w)) (view w a m)).any ≡ false → x ≡ cut_once a m (a + n + count * 3) w
-      → AllCut a n v x (Stuck count)
+  cuts_off : {x : List ℕ} → 3 < m → find_ear (points_in (take a w)) (view w a m) ≡ None → x ≡ cut_once a m (a + n + count * 3) w
+      → AllCut a n v x (Err (no_ear count))
   unfolding cut_once ears_at
-  cuts_stuck {x} h q e =
+  cuts_off {x} h q e =
       let f : x ≡ w = e ∙ rw (q, cut_once) refl in
       let size = length_view w a m s.ready.room in
       record {
@@ -134,8 +139,17 @@ module _ {a n : ℕ} {v w : List ℕ} {m count : ℕ} (s : Cuts a n v w m count)
         front = ap (take a) f ∙ s.front;
       }
 
+  pub cuts_stuck : {x : List ℕ} → 3 < m → is_some (find_ear (points_in (take a w)) (view w a m)) ≡ false → x ≡ cut_once a m (a + n + count * 3) w
+      → AllCut a n v x (Err (no_ear count))
+  cuts_stuck {x} h q e =
+      (elim (find_ear (points_in (take a w)) (view w a m)) as
+      (λ (o : Option Ear). find_ear (points_in (take a w)) (view w a m) ≡ o → is_some o ≡ false → AllCut a n v x (Err (no_ear count))) [
+        | Some ear ↦ λ p t. absurd (false≢true (sym t))
+        | None ↦ λ p t. cuts_off h p e
+      ]) refl q
+
   -- the last three
-  pub cuts_done : {x : List ℕ} → m ≤ 3 → x ≡ splice w (a + n + count * 3) (triangle_at (view w a 3) 0) → AllCut a n v x (Done (count + 1))
+  pub cuts_done : {x : List ℕ} → m ≤ 3 → x ≡ splice w (a + n + count * 3) (triangle_at (view w a 3) 0) → AllCut a n v x (Ok (count + 1))
   unfolding ears_at
   cuts_done {x} h e =
       let l = s.long in
@@ -152,10 +166,10 @@ module _ {a n : ℕ} {v w : List ℕ} {m count : ℕ} (s : Cuts a n v w m count)
       }
 
 -- ---- what is read from the buffer
-read_answer : (o : ℕ) (w : List ℕ) (r : Triangulation) → answer_of (ears_at o w r) ≡ r
+read_answer : (o : ℕ) (w : List ℕ) (r : Result ℕ NoEar) → answer_of (ears_at o w r) ≡ r
 unfolding answer_of ears_at
-read_answer o w (Done k) = ap Done (length_blocks (λ t. t) w o 3 k)
-read_answer o w (Stuck k) = refl
+read_answer o w (Ok k) = ap Ok (length_blocks (λ t. t) w o 3 k)
+read_answer o w (Err e) = refl
 
 -- ---- the whole: n points are laid into v; in w their numbers stand behind them, in x these are marked, in y the cutting is done, and u is the end
 module _ (n : ℕ) (v : List ℕ) {w : List ℕ} (laid : Laid n v) (e : w ≡ splice v (n * 2) (indices n)) where
@@ -192,7 +206,7 @@ module _ (n : ℕ) (v : List ℕ) {w : List ℕ} (laid : Laid n v) (e : w ≡ sp
     marked =
         only_words w (n * 2) n (mark_all (points_in (take (n * 2) w)) (view w (n * 2) n)) f as_many counted_ready.room ∙ rw (front, words) refl
 
-    module _ {y : List ℕ} {r : Triangulation} (c : AllCut (n * 2) n x y r) where
+    module _ {y : List ℕ} {r : Result ℕ NoEar} (c : AllCut (n * 2) n x y r) where
       -- what is read from the buffer is what the rules say
       whole : triangulate (points_of n v) ≡ ears_at (n * 2 + n) y r
       whole = cut_from_the_start (points_of n v) ∙ rw numbers (rw (first, marked) at c.answer)
@@ -204,7 +218,7 @@ module _ (n : ℕ) (v : List ℕ) {w : List ℕ} (laid : Laid n v) (e : w ≡ sp
       start = c.front ∙ first
 
       -- the index words are wiped: behind them stand the triangles, and nothing more
-      pub done_words : {u : List ℕ} {k : ℕ} → r ≡ Done k → length y ≡ length v → u ≡ splice y (n * 2) (replicate n 0)
+      pub done_words : {u : List ℕ} {k : ℕ} → r ≡ Ok k → length y ≡ length v → u ≡ splice y (n * 2) (replicate n 0)
           → u ≡ cut_in n v (triangulate (points_of n v))
       unfolding cut_in ears_at
       done_words {u} {k} q l g =
@@ -220,11 +234,11 @@ module _ (n : ℕ) (v : List ℕ) {w : List ℕ} (laid : Laid n v) (e : w ≡ sp
           rw (t, repacked (λ t. t) (λ t. t) 3 (λ ws h. refl) y (n * 2 + n) k (omega arith), all) (g ∙ splice_eq y (n * 2) (replicate n 0) (omega arith) ∙ rw (z, start) refl)
 
       -- all behind the points is wiped
-      pub stuck_words : {u : List ℕ} {k : ℕ} → r ≡ Stuck k → length y ≡ length v → u ≡ splice y (n * 2) (replicate (length y - n * 2) 0)
+      pub stuck_words : {u : List ℕ} {k : NoEar} → r ≡ Err k → length y ≡ length v → u ≡ splice y (n * 2) (replicate (length y - n * 2) 0)
           → u ≡ cut_in n v (triangulate (points_of n v))
       unfolding cut_in ears_at
       stuck_words {u} {k} q l g =
-          let t : triangulate (points_of n v) ≡ stuck k = whole ∙ ap (ears_at (n * 2 + n) y) q in
+          let t : triangulate (points_of n v) ≡ stuck k.after = whole ∙ ap (ears_at (n * 2 + n) y) q in
           let zeros : List ℕ = replicate (n + (n - 2) * 3) 0 in
           let z = length-replicate {A = ℕ} (n + (n - 2) * 3) 0 in
           let m = laid.some in

@@ -8,6 +8,7 @@ use native.Mathlib.Omega.{arith}
 use lib.Dec.{ltb}
 use lib.ListN.{length, take, drop, get_or, set, length-append, length-set, length-drop, drop_of_length-le}
 use lib.Seq.{take_all}
+use Rattle.std.specs.List.{copy_within}
 use Rattle.mem.specs.Slice.{view, splice, set_part, set_each, stored_each, length_splice, splice_view, splice_append, splice_over, splice_eq}
 use Rattle.mem.specs.Slice.{splice_nil, take_splice, view_before, view_same, view_snoc, length_view, get_or_view, get_or_splice_above, write_step}
 use Rattle.mem.specs.Packed.{splice_first}
@@ -134,56 +135,23 @@ module _ {a m : ℕ} {v w : List ℕ} {i : ℕ} (s : Marking a m v w i) where
   pub mark_all_lem : m ≤ i → w ≡ splice v a (mark_all (points_in (take a v)) (view v a m))
   mark_all_lem h = s.put ∙ ap (splice v a) (doing_end s.doing h)
 
--- ---- the word at k goes: v is the list where the loop begins, w the list now, and the words before i stand at their places
-pub record Closing (k : ℕ) (v w : List ℕ) (i : ℕ) : Type 0 where
-  pub from : k ≤ i
-  pub within : i < length v
-  pub long : length w ≡ length v
-  pub put : w ≡ splice v k (view v (k + 1) (i - k))
-
-pub close_none : {k : ℕ} {v : List ℕ} → k < length v → Closing k v v k
-close_none {k} {v} h =
-    let e : k - k ≡ 0 = omega arith in
-    record { from = omega arith; within = h; long = refl; put = rw e (sym (splice_nil v k)) }
-
-module _ {k : ℕ} {v w : List ℕ} {i : ℕ} (s : Closing k v w i) where
-  -- the words that have moved
-  moved : length (view v (k + 1) (i - k)) ≡ i - k
-  moved = length_view v (k + 1) (i - k) (omega (arith, s.from, s.within))
-
-  write : (x : ℕ) → set w i x ≡ splice v k (view v (k + 1) (i - k) ++ (x ∷ []))
-  write x =
-      let e : k + (i - k) ≡ i = omega (arith, s.from) in
-      rw e at (write_step v k (i - k) (view v (k + 1) (i - k)) x s.put moved)
-
-  next_word : get_or w (i + 1) 0 ≡ get_or v (i + 1) 0
-  next_word =
-      ap (λ (l : List ℕ). get_or l (i + 1) 0) s.put
-      ∙ get_or_splice_above v k (i + 1) (view v (k + 1) (i - k)) 0 (omega (arith, moved, s.from))
-
-  pub close_more : i + 1 < length v → Closing k v (set w i (get_or w (i + 1) 0)) (i + 1)
-  close_more h =
-      let e : i + 1 - k ≡ i - k + 1 = omega (arith, s.from) in
-      let f : k + 1 + (i - k) ≡ i + 1 = omega (arith, s.from) in
-      let q = rw f at (view_snoc v (k + 1) (i - k) 0 (rw f h)) in
-      record {
-        from = omega (arith, s.from);
-        within = h;
-        long = length-set w i (get_or w (i + 1) 0) ∙ s.long;
-        put = rw (e, q, ← next_word) (write (get_or w (i + 1) 0));
-      }
-
-  pub close_all : length v ≤ i + 1 → set w i 0 ≡ without v k ++ (0 ∷ [])
-  unfolding without
-  close_all h =
-      let n : length (view v (k + 1) (i - k) ++ (0 ∷ [])) ≡ i - k + 1 = omega (arith, length-append (view v (k + 1) (i - k)) (0 ∷ []), moved) in
-      write 0
-      ∙ splice_eq v k (view v (k + 1) (i - k) ++ (0 ∷ [])) (omega (arith, n, s.from, s.within))
-      ∙ rw (
-        drop_of_length-le v {i = k + length (view v (k + 1) (i - k) ++ (0 ∷ []))} (omega (arith, n, s.from)),
-        append-nil (view v (k + 1) (i - k) ++ (0 ∷ [])),
-        take_all (i - k) (drop (k + 1) v) (rw length-drop (omega (arith, s.from))),
-      ) (sym (append_assoc (take k v) (drop (k + 1) v) (0 ∷ [])))
+-- ---- the word at k of v goes: what follows has moved down by one in w, and a zero comes in at the end
+pub gap_closed : (v : List ℕ) (k : ℕ) {w : List ℕ} → k < length v → w ≡ copy_within v (k + 1) (length v) k → set w (length v - 1) 0 ≡ without v k ++ (0 ∷ [])
+unfolding without
+gap_closed v k {w} h e =
+    let n = length v - (k + 1) in
+    let xs = view v (k + 1) n in
+    let moved : length xs ≡ n = length_view v (k + 1) n (omega arith) in
+    let put : w ≡ splice v k xs = e ∙ sym (splice_eq v k xs (omega (arith, moved)) ∙ rw moved (sym (append_assoc (take k v) xs (drop (k + n) v)))) in
+    let long : length (xs ++ (0 ∷ [])) ≡ n + 1 = omega (arith, length-append xs (0 ∷ []), moved) in
+    let last : length v - 1 ≡ k + n = omega arith in
+    rw last (write_step v k n xs 0 put moved
+    ∙ splice_eq v k (xs ++ (0 ∷ [])) (omega (arith, long))
+    ∙ rw (
+      drop_of_length-le v {i = k + length (xs ++ (0 ∷ []))} (omega (arith, long)),
+      append-nil (xs ++ (0 ∷ [])),
+      take_all n (drop (k + 1) v) (rw length-drop (omega arith)),
+    ) (sym (append_assoc (take k v) (drop (k + 1) v) (0 ∷ []))))
 
 -- ---- the vertex after place i is cut: v is the buffer before, w once the gap is closed, u once the places beside it are marked
 module _ (v : List ℕ) {w : List ℕ} (a m i : ℕ) {k : ℕ} (r : Ready a m v) (h : i < m) (p : k ≡ next i m)

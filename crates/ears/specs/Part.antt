@@ -1,13 +1,12 @@
 -- The part of the work buffer in which n points are cut: 2n words of points, n index words, and 3(n − 2) words of triangles. Definitions only.
-use Rattle.std.specs.Prelude.{List, ◌++◌, ◌≡◌, ℕ, ◌+◌, ◌-◌, ◌*◌, ◌^◌, ◌≤◌, ◌<◌, length, take, replicate}
+use Rattle.std.specs.Prelude.{List, ◌++◌, ◌≡◌, ℕ, ◌+◌, ◌-◌, ◌*◌, ◌^◌, ◌≤◌, ◌<◌, length, take, replicate, Result, Ok, Err}
 use Rattle.mem.specs.Packed.{packed}
 use Rattle.mem.specs.Slice.{view}
 use Rattle.rules.specs.declared.Point.{Point}
 use Rattle.rules.specs.Ears.{Ears, done, stuck}
 use Rattle.plane.specs.Points.{points_in, GridWords}
 use Rattle.ears.specs.Ring.{Ring}
-use Rattle.ears.specs.declared.cut.Triangulation.{Triangulation}
-use Rattle.ears.specs.declared.cut.Triangulation.TheVariants.{Done, Stuck}
+use Rattle.ears.specs.declared.cut.NoEar.{NoEar}
 
 -- the points of a part
 abbrev pub points_of : ℕ → List ℕ → List Point
@@ -20,10 +19,14 @@ pub record Laid (n : ℕ) (w : List ℕ) : Type 0 where
   pub size : length w + 6 ≡ n * 6
   pub grid : GridWords (take (n * 2) w)
 
+-- no ear to cut, after so many triangles
+abbrev pub no_ear : ℕ → NoEar
+no_ear k = record { after = k }
+
 -- the answer's number is how many triangles were cut
-unfoldable pub answer_of : Ears → Triangulation
-answer_of (done ts) = Done (length ts)
-answer_of (stuck k) = Stuck k
+unfoldable pub answer_of : Ears → Result ℕ NoEar
+answer_of (done ts) = Ok (length ts)
+answer_of (stuck k) = Err (no_ear k)
 
 -- what the part holds at the end: the points as they were, the index words wiped, and the triangles; or nothing but zeros where there was no ear to cut
 unfoldable pub cut_in : ℕ → List ℕ → Ears → List ℕ

@@ -1,5 +1,5 @@
 // R2: one cut after the other, in a part of the work buffer: n points, n index words, and the triangles.
-ghost use Rattle.std.specs.Prelude.{◌≡◌, [], ◌∷◌, ◌++◌, ◌+◌, ◌-◌, ◌*◌, ◌≤◌, ◌<◌, length, take};
+ghost use Rattle.std.specs.Prelude.{◌≡◌, [], ◌∷◌, ◌++◌, ◌+◌, ◌-◌, ◌*◌, ◌≤◌, ◌<◌, length, take, is_some};
 ghost use Rattle.mem.specs.Slice.{view, splice};
 ghost use Rattle.rules.specs.Lists.{without};
 ghost use Rattle.rules.specs.Diagonal.{is_diagonal};
@@ -17,11 +17,10 @@ use plane::ring::{next, prev};
 use rules::{Ear, Kind};
 use words::fill::fill;
 
-// The triangles are there, or no ear was left to cut; with how many triangles were cut.
-#[derive(Clone, Copy)]
-pub enum Triangulation {
-    Done(usize),
-    Stuck(usize),
+// No ear was left to cut, after so many triangles.
+#[derive(Clone, Copy, Debug, PartialEq, Eq)]
+pub struct NoEar {
+    pub after: usize,
 }
 
 // The words 0, 1, .., n - 1.
@@ -41,9 +40,7 @@ fn close_gap(ix: &mut [u32], k: usize)
     ensures { ix.new ≡ without ix.old k ++ (0 ∷ []) }
 {
     let last = ix.len() - 1;
-    for i in k..last {
-        ix[i] = ix[i + 1];
-    }
+    ix.copy_within(k + 1.., k);
     ix[last] = 0;
 }
 
@@ -115,7 +112,7 @@ fn put_triangle(w: &mut [u32], a: usize, m: usize, i: usize, t: usize)
 }
 
 // The ear of the m words behind the points.
-fn ear_in(w: &[u32], a: usize, m: usize) -> Ear
+fn ear_in(w: &[u32], a: usize, m: usize) -> Option<Ear>
     requires { Ready a m w.now }
     ensures { result ≡ find_ear (points_in (take a w.now)) (view w.now a m) }
 {
@@ -127,22 +124,20 @@ fn ear_in(w: &[u32], a: usize, m: usize) -> Ear
 // is no ear.
 fn cut_one(w: &mut [u32], a: usize, m: usize, t: usize) -> bool
     requires { Ready a m w.old × (1 < m) × (a + m ≤ t) × (t + 3 ≤ length w.old) }
-    ensures found { result ≡ (find_ear (points_in (take a w.old)) (view w.old a m)).any }
+    ensures found { result ≡ is_some (find_ear (points_in (take a w.old)) (view w.old a m)) }
     ensures words { w.new ≡ cut_once a m t w.old }
 {
-    let ear = ear_in(&w[..], a, m);
-    if ear.any {
-        put_triangle(&mut *w, a, m, ear.at, t);
-        cut_ear(w, a, m, ear.at);
-        true
-    } else {
-        false
-    }
+    let Some(ear) = ear_in(&w[..], a, m) else {
+        return false;
+    };
+    put_triangle(&mut *w, a, m, ear.at, t);
+    cut_ear(w, a, m, ear.at);
+    true
 }
 
 // One turn after the other, while more than three words remain; the last three are a triangle. The triangles stand
 // behind the n index words.
-fn cut_all(w: &mut [u32], a: usize, n: usize) -> Triangulation
+fn cut_all(w: &mut [u32], a: usize, n: usize) -> Result<usize, NoEar>
     requires { Ready a n w.old × (3 ≤ n) × (a + n + (n - 2) * 3 ≤ length w.old) }
     ensures { AllCut a n w.old w.new result }
 {
@@ -154,16 +149,16 @@ fn cut_all(w: &mut [u32], a: usize, n: usize) -> Triangulation
             m -= 1;
             count += 1;
         } else {
-            return Triangulation::Stuck(count);
+            return Err(NoEar { after: count });
         }
     }
     let t = a + n + count * 3;
     put_triangle(w, a, 3, 0, t);
-    Triangulation::Done(count + 1)
+    Ok(count + 1)
 }
 
 // The triangles of the n points that are laid into the part; Rust's `triangulate`.
-pub fn triangulate(part: &mut [u32], n: usize) -> Triangulation
+pub fn triangulate(part: &mut [u32], n: usize) -> Result<usize, NoEar>
     requires { Laid n part.old }
     ensures answer { result ≡ answer_of (Rules.triangulate (points_of n part.old)) }
     ensures words { part.new ≡ cut_in n part.old (Rules.triangulate (points_of n part.old)) }
@@ -175,10 +170,10 @@ pub fn triangulate(part: &mut [u32], n: usize) -> Triangulation
     let t = cut_all(&mut *part, a, n);
     let e = part.len();
     match t {
-        Triangulation::Done(_) => {
+        Ok(_) => {
             fill(part, a, n, 0);
         }
-        Triangulation::Stuck(_) => {
+        Err(_) => {
             fill(part, a, e - a, 0);
         }
     }

@@ -1,7 +1,7 @@
 // R2: the ear with the least key, the lowest i on ties.
 ghost use Rattle.std.specs.Prelude.{◌≡◌, ◌<◌, length};
 ghost use Rattle.rules.specs.Plane.{InGrid};
-ghost use Rattle.rules.specs.Ears.{key_of, is_cuttable, key_from, better, least_ear, find_ear};
+ghost use Rattle.rules.specs.Ears.{key_of, is_cuttable, key_from, beats, better, least_ear, find_ear};
 ghost use Rattle.plane.specs.Points.{points_in};
 ghost use Rattle.ears.specs.Ring.{Ring};
 
@@ -46,32 +46,34 @@ fn key_from(kind: Kind, pts: &[u32], ix: &[u32], i: usize) -> u32
     }
 }
 
+// Whether a key is less than that of the best ear so far, if there is one.
+fn beats(key: u32, best: Option<Ear>) -> bool
+    ensures { result ≡ beats key best }
+{
+    match best {
+        Some(e) => key < e.key,
+        None => true,
+    }
+}
+
 // The ear at i with this key, where it may be cut, against the best so far.
-fn better_of(ok: bool, key: u32, i: usize, best: Ear) -> Ear
+fn better_of(ok: bool, key: u32, i: usize, best: Option<Ear>) -> Option<Ear>
     ensures { result ≡ better ok key i best }
 {
-    if ok & !(best.any & (best.key <= key)) {
-        Ear {
-            any: true,
-            key,
-            at: i,
-        }
+    if ok & beats(key, best) {
+        Some(Ear { key, at: i })
     } else {
         best
     }
 }
 
 // The least key among all places.
-fn least_ear(kind: Kind, pts: &[u32], ix: &[u32]) -> Ear
+fn least_ear(kind: Kind, pts: &[u32], ix: &[u32]) -> Option<Ear>
     requires { Ring pts.now ix.now }
     ensures { result ≡ least_ear kind (points_in pts.now) ix.now }
 {
     let n = ix.len();
-    let mut best = Ear {
-        any: false,
-        key: 0,
-        at: 0,
-    };
+    let mut best = None;
     for i in 0..n {
         if is_cuttable(kind, pts, ix, i) {
             best = better_of(true, key_from(kind, pts, ix, i), i, best);
@@ -81,14 +83,9 @@ fn least_ear(kind: Kind, pts: &[u32], ix: &[u32]) -> Ear
 }
 
 // A marked ear; if none is marked, a loose one.
-pub fn find_ear(pts: &[u32], ix: &[u32]) -> Ear
+pub fn find_ear(pts: &[u32], ix: &[u32]) -> Option<Ear>
     requires { Ring pts.now ix.now }
     ensures { result ≡ find_ear (points_in pts.now) ix.now }
 {
-    let marked = least_ear(Kind::Strict, pts, ix);
-    if marked.any {
-        marked
-    } else {
-        least_ear(Kind::Loose, pts, ix)
-    }
+    least_ear(Kind::Strict, pts, ix).or_else(|| least_ear(Kind::Loose, pts, ix))
 }

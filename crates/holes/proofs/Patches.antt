@@ -1,5 +1,6 @@
 -- A hole filled: what the cutting leaves is what the meshing asks for, and once the words of the cutting are wiped the polygons are all that was added.
 -- Assumes nothing.
+use Rattle.std.specs.Prelude.{Some}
 use mathlib.Core.Path.{◌≡◌, refl, sym, ap, ◌∙◌}
 use mathlib.Core.List.{List, [], ◌∷◌, ◌++◌}
 use Prim.Native.Nat.{ℕ, ◌+◌, ◌-◌, ◌*◌}
@@ -21,7 +22,6 @@ use Rattle.laws.proofs.Removal.{length_places}
 use Rattle.records.specs.Layout.{vertex_size, point_size, polygon_size, vertex_in, point_in, vertices_at, points_at, polygon_records, Small}
 use Rattle.records.specs.Fixed.{point_fixed, fixed_count}
 use Rattle.records.specs.Polygons.{length_records}
-use Rattle.holes.specs.declared.fill.Filled.TheVariants.{Polygons}
 use Rattle.holes.specs.Fill.{place_words, cut_words, triangles_at, MeshReady, MeshedTo, FillReady, hole_polygons, filled_of, filled_in}
 use Rattle.polys.specs.Rows.{row_size, wiped}
 use Rattle.holes.specs.Places.{placed_words}
@@ -153,7 +153,7 @@ module _ {v : List ℕ} {vo nv at q m po nvp : ℕ} (r : FillReady v vo nv at q 
       unfolding new
       counted = rw (same_vertices, same_points, c, triangles_there) at x.count
 
-      pub fill_answer : Polygons n ≡ filled_of (vertices_at v vo nv) nvp (points_at v q m) (triangulate (places_of (vertices_at v vo nv) (points_at v q m)))
+      pub fill_answer : Some n ≡ filled_of (vertices_at v vo nv) nvp (points_at v q m) (triangulate (places_of (vertices_at v vo nv) (points_at v q m)))
       unfolding filled_of new
       fill_answer = rw (d, counted) refl
 

@@ -1,5 +1,5 @@
 -- What the functions that fill a hole ask for. Definitions only.
-use Rattle.std.specs.Prelude.{◌≡◌, List, [], ◌∷◌, ◌++◌, map, ℕ, ◌+◌, ◌-◌, ◌*◌, ◌^◌, ◌≤◌, ◌<◌, length, replicate}
+use Rattle.std.specs.Prelude.{◌≡◌, List, [], ◌∷◌, ◌++◌, map, ℕ, ◌+◌, ◌-◌, ◌*◌, ◌^◌, ◌≤◌, ◌<◌, length, replicate, Option, Some, None}
 use Rattle.mem.specs.Slice.{splice}
 use Rattle.mem.specs.Tab.{blocks}
 use Rattle.mem.specs.Packed.{packed, Every}
@@ -10,8 +10,6 @@ use Rattle.rules.specs.Removal.{hole_triangle}
 use Rattle.rules.specs.declared.Vertex.{Vertex}
 use Rattle.rules.specs.declared.Point.{Point}
 use Rattle.rules.specs.declared.ChainPoint.{ChainPoint}
-use Rattle.holes.specs.declared.fill.Filled.{Filled}
-use Rattle.holes.specs.declared.fill.Filled.TheVariants.{Polygons, NoEars}
 use Rattle.laws.specs.Lists.{All}
 use Rattle.laws.specs.Ears.{Triangle}
 use Rattle.polys.specs.Rows.{row_size, wiped}
@@ -94,9 +92,9 @@ pub record FillReady (w : List ℕ) (vo nv at q m po nvp : ℕ) : Type 0 where
   pub most : nvp ≤ most_corners
 
 -- what filling a hole answers: how many polygons it has, or that there was no ear to cut
-unfoldable pub filled_of : List Vertex → ℕ → List ChainPoint → Ears → Filled
-filled_of vs nvp hole (done ts) = Polygons (length (hole_polygons vs nvp hole ts))
-filled_of vs nvp hole (stuck k) = NoEars
+unfoldable pub filled_of : List Vertex → ℕ → List ChainPoint → Ears → Option ℕ
+filled_of vs nvp hole (done ts) = Some (length (hole_polygons vs nvp hole ts))
+filled_of vs nvp hole (stuck k) = None
 
 -- and what it leaves: its polygons at `at`, with blank ones behind them, as many as triangles in all; and zeros where it was cut
 unfoldable pub filled_in : List ℕ → List Vertex → ℕ → ℕ → ℕ → List ChainPoint → Ears → List ℕ

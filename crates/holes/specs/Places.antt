@@ -1,7 +1,7 @@
 -- Places as words in the buffer, read back from it; and what the answer of the cutting says. Laws for all who cut. Assumes nothing.
 -- Key: `points_back`: places read back from their words; `was_done`, `was_stuck`.
-use Rattle.std.specs.Prelude.{◌≡◌, refl, List, [], ◌∷◌, ℕ, zero, suc, ◌+◌, ◌*◌, ◌/◌, ◌≤◌, ◌<◌, length, get_or, set}
-use Rattle.std.proofs.Common.{◌∙◌, arith, ext_get_or}
+use Rattle.std.specs.Prelude.{◌≡◌, refl, List, [], ◌∷◌, ℕ, zero, suc, ◌+◌, ◌*◌, ◌/◌, ◌≤◌, ◌<◌, length, get_or, set, Ok, Err}
+use Rattle.std.proofs.Common.{sym, ap, ◌∙◌, arith, ext_get_or}
 use Rattle.mem.specs.Slice.{splice, set_each, stored_each}
 use Rattle.mem.specs.Tab.{tab, length_tab, get_or_tab}
 use Rattle.mem.specs.Packed.{every_of, packed, length_packed}
@@ -11,8 +11,8 @@ use Rattle.rules.specs.declared.Point.{Point}
 use Rattle.laws.specs.Lists.{All}
 use Rattle.laws.proofs.Lists.{all_head, all_tail}
 use Rattle.plane.specs.Points.{point_of, points_in}
-use Rattle.ears.specs.Part.{answer_of}
-use Rattle.ears.specs.declared.cut.Triangulation.TheVariants.{Done, Stuck}
+use Rattle.ears.specs.Part.{no_ear, answer_of}
+use Rattle.ears.specs.declared.cut.NoEar.{NoEar}
 use Rattle.holes.specs.Fill.{place_words}
 
 -- ---- places and their words
@@ -59,12 +59,12 @@ pub record WasDone (t : Ears) (k : ℕ) : Type 0 where
   pub is : t ≡ done ts
   pub count : k ≡ length ts
 
-pub was_done : (t : Ears) (k : ℕ) → Done k ≡ answer_of t → WasDone t k
+pub was_done : (t : Ears) (k : ℕ) → Ok k ≡ answer_of t → WasDone t k
 unfolding answer_of
 was_done (done ts) k e = record { ts = ts; is = refl; count = cc }
-was_done (stuck j) k e = let z : ◌≡◌ {A = ℕ} 0 1 = cc in absurd (omega arith)
+was_done (stuck j) k e = cc
 
-pub was_stuck : (t : Ears) (k : ℕ) → Stuck k ≡ answer_of t → t ≡ stuck k
+pub was_stuck : (t : Ears) (e : NoEar) → Err e ≡ answer_of t → t ≡ stuck e.after
 unfolding answer_of
-was_stuck (done ts) k e = let z : ◌≡◌ {A = ℕ} 0 1 = cc in absurd (omega arith)
-was_stuck (stuck j) k e = cc
+was_stuck (done ts) e q = cc
+was_stuck (stuck j) e q = let z : e ≡ no_ear j = cc in sym (ap (λ (x : NoEar). stuck x.after) z)

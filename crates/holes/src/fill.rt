@@ -10,7 +10,7 @@ ghost use Rattle.holes.specs.Fill.{FillReady, filled_of, filled_in};
 ghost use Rattle.rules.specs.Ears as Rules;
 ghost use Rattle.ears.specs.Part.{answer_of};
 
-use ears::cut::{Triangulation, triangulate};
+use ears::cut::{NoEar, triangulate};
 use polys::merge::merge_polys;
 use records::point::load_point;
 use records::polygon::{NONE, POLYGON_SIZE, Poly, store_poly};
@@ -38,7 +38,7 @@ pub fn cut_hole(
     q: usize,
     m: usize,
     po: usize,
-) -> Triangulation
+) -> Result<usize, NoEar>
     requires { CutReady work.old vo nv q m po }
     ensures answer { result ≡ answer_of (Rules.triangulate (places_of (vertices_at work.old vo nv) (points_at work.old q m))) }
     ensures words { work.new ≡ splice work.old po (cut_words m (places_of (vertices_at work.old vo nv) (points_at work.old q m)) (Rules.triangulate (places_of (vertices_at work.old vo nv) (points_at work.old q m)))) }
@@ -113,14 +113,8 @@ pub fn mesh_hole(
     merge_polys(work, vo, nv, at, k, nvp, ro)
 }
 
-// A hole was filled with so many polygons, or it has no ear to cut.
-#[derive(Clone, Copy)]
-pub enum Filled {
-    Polygons(usize),
-    NoEars,
-}
-
-// The hole of the m points at q is cut, behind them at po, and its polygons go to `at`, in front of them.
+// The hole of the m points at q is cut, behind them at po, and its polygons go to `at`, in front of them. The result says how
+// many they are, or that there is no ear to cut.
 pub fn fill_hole(
     work: &mut [u32],
     vo: usize,
@@ -130,20 +124,20 @@ pub fn fill_hole(
     m: usize,
     po: usize,
     nvp: usize,
-) -> Filled
+) -> Option<usize>
     requires { FillReady work.old vo nv at q m po nvp }
     ensures answer { result ≡ filled_of (vertices_at work.old vo nv) nvp (points_at work.old q m) (Rules.triangulate (places_of (vertices_at work.old vo nv) (points_at work.old q m))) }
     ensures words { work.new ≡ filled_in work.old (vertices_at work.old vo nv) nvp at po (points_at work.old q m) (Rules.triangulate (places_of (vertices_at work.old vo nv) (points_at work.old q m))) }
 {
     match cut_hole(work, vo, nv, q, m, po) {
-        Triangulation::Done(k) => {
+        Ok(k) => {
             let n = mesh_hole(work, vo, nv, at, q, m, po + m * 3, k, nvp, po);
             fill(work, po, m * 6 - 6, 0);
-            return Filled::Polygons(n);
+            Some(n)
         }
-        Triangulation::Stuck(_) => {
+        Err(_) => {
             fill(work, po, m * 6 - 6, 0);
-            return Filled::NoEars;
+            None
         }
     }
 }

@@ -1,6 +1,6 @@
 -- R2: the triangles that are cut have the area of the points, they are n - 2 (`CutTurns`), and their numbers are below n. Assumes nothing.
 -- Key: `triangulated`: of three or more points that are cut, the triangles have their area, are two fewer, and name places below their number.
-use Rattle.std.specs.Prelude.{ℕ, zero, suc, ◌+◌, ◌-◌, ◌^◌, ◌≤◌, ◌<◌, ◌≡◌, refl, Bool, true, false, cond, not, ◌&&◌, List, [], ◌∷◌, ◌++◌, map, leb, length, get_or, ℤ, ◌+ℤ◌}
+use Rattle.std.specs.Prelude.{ℕ, zero, suc, ◌+◌, ◌-◌, ◌^◌, ◌≤◌, ◌<◌, ◌≡◌, refl, Bool, true, false, cond, ◌&&◌, List, [], ◌∷◌, ◌++◌, map, length, get_or, ℤ, ◌+ℤ◌, Option, Some, None}
 use Rattle.std.proofs.Common.{arith, sym, ◌∙◌, ap, take_all}
 use Rattle.std.proofs.lemmas.List.{length-map}
 use Rattle.std.proofs.Math.Seq.{map-set_same}
@@ -15,13 +15,13 @@ use Rattle.rules.specs.declared.Kind.TheVariants.{Strict, Loose}
 use Rattle.rules.specs.Plane.{area, origin}
 use Rattle.rules.specs.Lists.{next, without}
 use Rattle.rules.specs.Areas.{sum_of}
-use Rattle.rules.specs.Ears.{index_of, with_mark, indices, remark, mark_from, mark_all, is_cuttable, key_from, no_ear, better, try_ear, least_ear, find_ear, triangle_at, remark_gap, cut_ear, done, cut_all, triangulate}
+use Rattle.rules.specs.Ears.{index_of, with_mark, indices, remark, mark_from, mark_all, is_cuttable, key_from, beats, better, try_ear, least_ear, find_ear, triangle_at, remark_gap, cut_ear, done, cut_all, triangulate}
 use Rattle.laws.specs.Lists.{All, none, more}
 use Rattle.laws.proofs.Lists.{all_append, all_at, all_of_lem, all_without, sum_append, map_tab, map_without, length_without, get_or_map_in}
 use Rattle.laws.proofs.Sides.{area_triangle}
 use Rattle.laws.proofs.Ring.{next_below, area_without}
 use Rattle.laws.specs.Ears.{Triangle, triangle, cut_area, points_at, Cuts, Triangulated}
-use Rattle.laws.proofs.CutTurns.{cut_true, cut_false, not_done, triangles_counted}
+use Rattle.laws.proofs.CutTurns.{cut_some, cut_none, not_done, triangles_counted}
 use Rattle.laws.proofs.Unmarked.{index_small}
 
 -- ---- marks don't change what a word says
@@ -58,30 +58,33 @@ unfolding indices
 all_indices n = all_of_lem (tab (λ k. k) n) 0 (λ i h. let e : i < n = rw (length_tab (λ k. k) n) at h in rw (get_or_tab (λ k. k) n i 0 e) e)
 
 -- ---- the ear that is found is one of the places
-Found : ℕ → Ear → Type 0
-Found n e = e.any ≡ true → e.at < n
+at_of : Option Ear → ℕ
+at_of (Some e) = e.at
+at_of None = 0
 
-better_in : (ok : Bool) (k i n : ℕ) (e : Ear) → i < n → Found n e → Found n (better ok k i e)
-unfolding better Found
-better_in ok k i n e h f = go (ok && not (e.any && leb e.key k))
+Found : ℕ → Option Ear → Type 0
+Found n o = (e : Ear) → o ≡ Some e → e.at < n
+
+better_in : (ok : Bool) (k i n : ℕ) (o : Option Ear) → i < n → Found n o → Found n (better ok k i o)
+unfolding better Found at_of
+better_in ok k i n o h f = go (ok && beats k o)
   where
-    go : (b : Bool) → Found n (cond b (record { any = true; key = k; at = i }) e)
-    go true = λ q. h
+    go : (b : Bool) → Found n (cond b (Some (record { key = k; at = i })) o)
+    go true = λ e q. let z : i ≡ e.at = ap at_of q in rw (← z) h
     go false = f
 
 least_in : (kind : Kind) (ps : List Point) (ws : List ℕ) → Found (length ws) (least_ear kind ps ws)
 unfolding Found least_ear try_ear
 least_in kind ps ws = each_ind (try_ear kind ps ws) (Found (length ws)) 0 (length ws)
-    (λ i e l h k. better_in (is_cuttable kind ps ws i) (key_from kind ps ws i) i (length ws) e h k) no_ear
-    (λ (q : false ≡ true). let z : ◌≡◌ {A = ℕ} 0 1 = cc in absurd (omega arith))
+    (λ i o l h k. better_in (is_cuttable kind ps ws i) (key_from kind ps ws i) i (length ws) o h k) None (λ e q. cc)
 
-either_in : (n : ℕ) (b : Bool) (e f : Ear) → Found n e → Found n f → Found n (elim b [ true ↦ e | false ↦ f ])
-either_in n true e f p q = p
-either_in n false e f p q = q
+either_in : (n : ℕ) (o p : Option Ear) → Found n o → Found n p → Found n (elim o [ Some e ↦ Some e | None ↦ p ])
+either_in n (Some e) p f g = f
+either_in n None p f g = g
 
-pub ear_in : (ps : List Point) (ws : List ℕ) → (find_ear ps ws).any ≡ true → (find_ear ps ws).at < length ws
+pub ear_in : (ps : List Point) (ws : List ℕ) (e : Ear) → find_ear ps ws ≡ Some e → e.at < length ws
 unfolding Found find_ear
-ear_in ps ws = either_in (length ws) (least_ear Strict ps ws).any (least_ear Strict ps ws) (least_ear Loose ps ws) (least_in Strict ps ws) (least_in Loose ps ws)
+ear_in ps ws = either_in (length ws) (least_ear Strict ps ws) (least_ear Loose ps ws) (least_in Strict ps ws) (least_in Loose ps ws)
 
 -- ---- triangles
 -- the triangle at i of the words ws, as one of the numbers js that stand in them
@@ -161,16 +164,16 @@ pub cuts : (f : ℕ) (ps : List Point) (ws : List ℕ) (out ts : List (List ℕ)
 unfolding cut_all
 cuts zero ps ws out ts n a b e = cuts_end ps ws out ts (omega arith) a b (cc)
 cuts (suc f) ps ws out ts n a b e =
-    (elim (find_ear ps ws).any as (λ (t : Bool). (find_ear ps ws).any ≡ t → Cuts ps ws out ts) [
-      | true ↦ λ q.
-          let h = ear_in ps ws q in
-          cuts_more ps ws out ts (find_ear ps ws).at (omega arith) h
-          (cuts f ps (cut_ear ps (find_ear ps ws).at ws) (out ++ (triangle_at ws (find_ear ps ws).at ∷ [])) ts
-          (omega (arith, length_cut ps (find_ear ps ws).at ws (omega arith)))
-          (rw (cut_index ps (find_ear ps ws).at ws) (all_without (map index_of ws) (next (find_ear ps ws).at (length ws)) a))
-          (all_append b (more (triangle_in (length ps) ws (find_ear ps ws).at (omega arith) h a) none))
-          (sym (cut_true f ps ws out q) ∙ e))
-      | false ↦ λ q. absurd (not_done (length out) ts (sym (cut_false f ps ws out q) ∙ e))
+    (elim (find_ear ps ws) as (λ (o : Option Ear). find_ear ps ws ≡ o → Cuts ps ws out ts) [
+      | Some x ↦ λ q.
+          let h = ear_in ps ws x q in
+          cuts_more ps ws out ts x.at (omega arith) h
+          (cuts f ps (cut_ear ps x.at ws) (out ++ (triangle_at ws x.at ∷ [])) ts
+          (omega (arith, length_cut ps x.at ws (omega arith)))
+          (rw (cut_index ps x.at ws) (all_without (map index_of ws) (next x.at (length ws)) a))
+          (all_append b (more (triangle_in (length ps) ws x.at (omega arith) h a) none))
+          (sym (cut_some f ps ws out x q) ∙ e))
+      | None ↦ λ q. absurd (not_done (length out) ts (sym (cut_none f ps ws out q) ∙ e))
     ]) refl
 
 -- ---- how many they are

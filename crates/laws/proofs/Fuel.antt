@@ -6,7 +6,7 @@ use Rattle.std.proofs.Common.{sym, ap, ◌∙◌, ⊎_elim, arith, lt-ltb, le-lt
 use Rattle.mem.specs.Cases.{lt_or_le}
 use Rattle.mem.specs.Loops.{times, times_end, times_turn, times_last, times_still, each, steps}
 use Rattle.rules.specs.Lists.{swap_remove}
-use Rattle.rules.specs.Ears.{indices, mark_all, find_ear, cut_ear, cut_all, triangulate}
+use Rattle.rules.specs.Ears.{indices, mark_all, cut_ear, cut_all, triangulate}
 use Rattle.rules.specs.Mesh.{Polygon, no_polygon, polygon_at, Mesh, no_mesh}
 use Rattle.rules.specs.Merge.{best_pair, join_pair, joined, merge_loop, merge_all}
 use Rattle.rules.specs.Removal.{holds, untouched, TakingOut, take_one, taken_out, Walk, walk_one, walk_once, walk_start, walk, Removal, gone, remove_vertex, remove_from, remove_all}
@@ -18,7 +18,7 @@ use Rattle.rules.specs.declared.Vertex.{Vertex}
 use Rattle.rules.specs.declared.Pair.{Pair}
 use Rattle.laws.proofs.Lists.{swap_length, length_without}
 use Rattle.laws.proofs.Ears.{length_cut, length_marked, length_indices}
-use Rattle.laws.proofs.CutTurns.{cut_true, cut_false}
+use Rattle.laws.proofs.CutTurns.{cut_some, cut_none}
 use Rattle.laws.proofs.Walks.{one_left}
 use Rattle.laws.proofs.Removal.{removal_fills}
 use Rattle.laws.proofs.Contours.{add_skip, add_stuck, add_done}
@@ -29,15 +29,14 @@ use Rattle.laws.proofs.Passes.{once_ends, passes_enough, once_still, one_more}
 pub cutting_turns : (ps : List Point) (ws : List ℕ) (out : List (List ℕ)) → Cutting ps ws out
 unfolding cut_all
 cutting_turns ps ws out =
-    let i = (find_ear ps ws).at in
     record {
-      cut = λ h e.
-          let n = length_cut ps i ws (omega arith) in
-          let p : length ws - 3 ≡ suc (length (cut_ear ps i ws) - 3) = omega arith in
-          ap (λ (f : ℕ). cut_all f ps ws out) p ∙ cut_true (length (cut_ear ps i ws) - 3) ps ws out e;
-      none = λ h e.
+      cut = λ e h q.
+          let n = length_cut ps e.at ws (omega arith) in
+          let p : length ws - 3 ≡ suc (length (cut_ear ps e.at ws) - 3) = omega arith in
+          ap (λ (f : ℕ). cut_all f ps ws out) p ∙ cut_some (length (cut_ear ps e.at ws) - 3) ps ws out e q;
+      none = λ h q.
           let p : length ws - 3 ≡ suc (length ws - 1 - 3) = omega arith in
-          ap (λ (f : ℕ). cut_all f ps ws out) p ∙ cut_false (length ws - 1 - 3) ps ws out e;
+          ap (λ (f : ℕ). cut_all f ps ws out) p ∙ cut_none (length ws - 1 - 3) ps ws out q;
       last = λ h. let p : length ws - 3 ≡ 0 = omega arith in ap (λ (f : ℕ). cut_all f ps ws out) p;
     }
 

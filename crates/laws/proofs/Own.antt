@@ -20,6 +20,7 @@ use Rattle.rules.specs.Areas.{mesh_area, stored_area}
 use Rattle.rules.specs.Handed.{Handed, link_at, last_portal, NamedBack}
 use Rattle.rules.specs.Checker.{open_link, verdict, LinkLaw, OpenLaw, handed_on, own_claim, OwnAccepted, EachAccepted}
 use Rattle.laws.specs.Checks.{Passed}
+use Rattle.laws.proofs.Replies.{built_polygons, built_vertices}
 use Rattle.laws.specs.Build.{Bounded}
 use Rattle.laws.proofs.Build.{bounded}
 use Rattle.laws.specs.Links.{UpTo}
@@ -139,9 +140,7 @@ own_of : (j : Job) (b : Lent) (o : Outcome) → outcome j b ≡ o → OwnAccepte
 unfolding reply_of
 own_of j b (refused r) e n k q = let z : ◌≡◌ {A = ℕ} 0 1 = cc in absurd (omega arith)
 own_of j b (built m ls log) e n k q =
-    let x : length m.polygons ≡ n = cc in
-    let y : length m.vertices ≡ k = cc in
-    rw (← x, ← y) (own j b m ls log e)
+    rw (← built_polygons q, ← built_vertices q) (own j b m ls log e)
 
 pub each_accepted : EachAccepted
 each_accepted j b = own_of j b (outcome j b) refl

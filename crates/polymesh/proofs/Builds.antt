@@ -1,5 +1,6 @@
 -- A job that has passed the checks is built: what each step asks for, and what the buffers hold at the end. Assumes nothing.
 -- Key: `refused_exit` and `built_exit`; `made_built`, once all is wiped.
+use Rattle.std.specs.Prelude.{Ok, Err}
 use mathlib.Core.Path.{◌≡◌, refl, sym, ap, ap₂, subst, ◌∙◌}
 use mathlib.Core.Bool.{false, cond}
 use mathlib.Core.List.{List, ◌++◌}
@@ -18,8 +19,8 @@ use Rattle.rules.specs.Exits.{wiped, only_wiped, exit_of}
 use Rattle.rules.specs.Widths.{Fits}
 use Rattle.rules.specs.declared.Refusal.{Refusal}
 use Rattle.rules.specs.declared.Refusal.TheVariants.{NoEarInContour, NoEarInHole}
-use Rattle.rules.specs.declared.Reply.{Reply}
-use Rattle.rules.specs.declared.Reply.TheVariants.{Built, Refused}
+use Rattle.rules.specs.Replies.{Reply}
+use Rattle.rules.specs.declared.Built.{Built}
 use Rattle.laws.specs.Replies.{WasBuilt}
 use Rattle.laws.proofs.Replies.{was_refused, was_built}
 use Rattle.laws.specs.Lists.{All}
@@ -28,7 +29,7 @@ use Rattle.laws.specs.Measures.{spares_in}
 use Rattle.laws.specs.Merge.{Good, Below}
 use Rattle.laws.proofs.Merge.{polygons_few}
 use Rattle.records.specs.Layout.{most_corners}
-use Rattle.removals.specs.declared.site.Counts.{Counts}
+use Rattle.records.specs.declared.counts.Counts.{Counts}
 use Rattle.removals.specs.Site.{mesh_at, Stands}
 use Rattle.removals.specs.Removing.{counts_of}
 use Rattle.removals.specs.Standing.{stands_wider}
@@ -115,7 +116,7 @@ made_built {b = b} {u = u} r part m ys n l h e =
 
 module _ {v t : ℕ} {j : Job} {b : Lent} (r : BuildReady (used_of v t) v t j b) where
   module _ {u : List ℕ} {reply : Reply} (g : MeshedTo u v t j reply) where
-    pub refused_exit : {x : Refusal} → reply ≡ Refused x → {z : List ℕ} → MadeTo j b (lending b z) (Refused x)
+    pub refused_exit : {x : Refusal} → reply ≡ Err x → {z : List ℕ} → MadeTo j b (lending b z) (Err x)
     unfolding exit_of only_wiped
     refused_exit {x} e =
         let o = was_refused (comes_to j) x (sym e ∙ g.answer) in
@@ -124,12 +125,12 @@ module _ {v t : ℕ} {j : Job} {b : Lent} (r : BuildReady (used_of v t) v t j b)
           exit = λ w. sym (ap (exit_of j (lending b w)) o ∙ ap (λ c. cond c (lending b w) (only_wiped j (lending b w))) (quiet j (add_all j) x o));
         }
 
-    module _ {np nv : ℕ} (e : reply ≡ Built np nv) where
+    module _ {y : Built} (e : reply ≡ Ok y) where
       n : Counts
-      n = record { vertices = nv; polygons = np }
+      n = record { vertices = y.vertices; polygons = y.polygons }
 
-      w : WasBuilt (comes_to j) np nv
-      w = was_built (comes_to j) np nv (sym e ∙ g.answer)
+      w : WasBuilt (comes_to j) y.polygons y.vertices
+      w = was_built (comes_to j) y.polygons y.vertices (sym e ∙ g.answer)
 
       m : Mesh
       m = w.mesh
@@ -146,7 +147,7 @@ module _ {v t : ℕ} {j : Job} {b : Lent} (r : BuildReady (used_of v t) v t j b)
       unfolding m
       fit = r.fits w.mesh w.links w.log w.is
 
-      pub linkable : LinkableReady u v t (record { vertices = nv; polygons = np })
+      pub linkable : LinkableReady u v t (record { vertices = y.vertices; polygons = y.polygons })
       unfolding n m
       linkable = record {
         sized = admitted_sized r.job;
@@ -155,7 +156,7 @@ module _ {v t : ℕ} {j : Job} {b : Lent} (r : BuildReady (used_of v t) v t j b)
         few = rw w.polygons fit.polygons;
       }
 
-      module _ {x : List ℕ} (l : LinkedTo u x v t (record { vertices = nv; polygons = np }) j.w j.h j.border) where
+      module _ {x : List ℕ} (l : LinkedTo u x v t (record { vertices = y.vertices; polygons = y.polygons }) j.w j.h j.border) where
         here : mesh_at u (site_of v t) n ≡ m
         here = ap (mesh_at u (site_of v t)) counts ∙ meshed.read
 
@@ -163,24 +164,24 @@ module _ {v t : ℕ} {j : Job} {b : Lent} (r : BuildReady (used_of v t) v t j b)
         unfolding n m
         stored =
             rw (links_built j (add_all j) w.mesh w.links w.log w.is)
-            (subst (λ (y : Mesh). Outputs.Stands (places_of v t n) x y (links_with j.w j.h j.border y)) here l.stands)
+            (subst (λ (z : Mesh). Outputs.Stands (places_of v t n) x z (links_with j.w j.h j.border z)) here l.stands)
 
         sound : All (Good (Below (length m.vertices)) j.nvp) m.polygons
-        sound = subst (λ (y : Mesh). All (Good (Below (length y.vertices)) j.nvp) y.polygons) meshed.read meshed.stands.sound.good
+        sound = subst (λ (z : Mesh). All (Good (Below (length z.vertices)) j.nvp) z.polygons) meshed.read meshed.stands.sound.good
 
         few : length m.polygons ≤ t
         few =
-            let s = subst (λ (y : Mesh). spares_in y.polygons ≤ t) meshed.read meshed.stands.spares in
+            let s = subst (λ (z : Mesh). spares_in z.polygons ≤ t) meshed.read meshed.stands.spares in
             omega (arith, polygons_few (all_imp (λ p (k : Good (Below (length m.vertices)) j.nvp p). k.long) sound), s)
 
-        few_rows : np * j.nvp ≤ t * j.nvp
+        few_rows : y.polygons * j.nvp ≤ t * j.nvp
         unfolding m
         few_rows = mul-le-mul_right j.nvp (rw w.polygons few)
 
         room_now : Outputs.Room (places_of v t n) j.nvp (lending b x)
         unfolding n m
         room_now =
-            let q : np ≤ t = rw w.polygons few in
+            let q : y.polygons ≤ t = rw w.polygons few in
             record {
               vertices = omega (arith, w.vertices, meshed.stands.vertices, r.room.vertices);
               polygons = omega (arith, few_rows, r.room.polygons);
@@ -190,16 +191,16 @@ module _ {v t : ℕ} {j : Job} {b : Lent} (r : BuildReady (used_of v t) v t j b)
               flags = omega (arith, q, r.room.flags);
             }
 
-        pub storable : {at : Places} → at ≡ places_of v t (record { vertices = nv; polygons = np })
+        pub storable : {at : Places} → at ≡ places_of v t (record { vertices = y.vertices; polygons = y.polygons })
             → StoreReady at j.nvp (lending b x)
         unfolding n
         storable p = rw p (store_ready stored room_now r.job.passed.nvp_high (all_imp (λ p (k : Good (Below (length m.vertices)) j.nvp p). k.short) sound) fit)
 
-        pub built_exit : {at : Places} → at ≡ places_of v t (record { vertices = nv; polygons = np }) → {a : Lent} → StoredTo at j.nvp (lending b x) a → {z : List ℕ}
-            → MadeTo j b (lending a z) (Built np nv)
+        pub built_exit : {at : Places} → at ≡ places_of v t (record { vertices = y.vertices; polygons = y.polygons }) → {a : Lent} → StoredTo at j.nvp (lending b x) a → {z : List ℕ}
+            → MadeTo j b (lending a z) (Ok y)
         unfolding exit_of n m
         built_exit p k =
             record {
               answer = sym e ∙ g.answer;
-              exit = λ y. stored_filled stored j (rw p at k) y (wiped j y) refl ∙ sym (ap (exit_of j (lending b y)) w.is);
+              exit = λ o. stored_filled stored j (rw p at k) o (wiped j o) refl ∙ sym (ap (exit_of j (lending b o)) w.is);
             }

@@ -1,6 +1,7 @@
 -- What the contours and the removals come to, case by case. Assumes nothing.
 -- Key: `no_ear_in_contour`, `stuck_came`, `left_came`.
-use mathlib.Core.Path.{◌≡◌, refl, sym, ap, ap₂, subst, ◌∙◌}
+use Rattle.std.specs.Prelude.{Ok, Err}
+use mathlib.Core.Path.{◌≡◌, refl, sym, ap, subst, ◌∙◌}
 use mathlib.Core.List.{List, []}
 use Prim.Native.Nat.{ℕ}
 use native.Mathlib.Omega.{arith}
@@ -12,20 +13,18 @@ use Rattle.rules.specs.Job.{Job, count_v, count_t}
 use Rattle.rules.specs.Areas.{job_area}
 use Rattle.rules.specs.Build.{Contours, added, no_ear_in, built, linked, cleared, add_all, reply_of}
 use Rattle.rules.specs.declared.Refusal.TheVariants.{NoEarInContour, NoEarInHole}
-use Rattle.rules.specs.declared.Reply.TheVariants.{Built, Refused}
+use Rattle.rules.specs.Replies.{as_built}
 use Rattle.laws.proofs.Checks.{T-below-V}
 use Rattle.laws.specs.Build.{Balanced}
 use Rattle.laws.proofs.Build.{all_added, removals, no_refusal}
-use Rattle.contours.specs.declared.gather.Gathered.{Gathered}
-use Rattle.contours.specs.declared.gather.Gathered.TheVariants as Gather
+use Rattle.contours.specs.declared.gather.NoEarIn.{NoEarIn}
 use Rattle.contours.specs.declared.ground.Ground.{Ground}
 use Rattle.contours.specs.Ground.{ground_in}
-use Rattle.contours.specs.Gathering.{GatherReady, gathered_of, mesh_of}
-use Rattle.removals.specs.declared.site.Counts.{Counts}
-use Rattle.removals.specs.declared.all.Removals.{Removals}
-use Rattle.removals.specs.declared.all.Removals.TheVariants as Tried
+use Rattle.contours.specs.Gathering.{GatherReady, no_ear_of, gathered_of, mesh_of}
+use Rattle.records.specs.declared.counts.Counts.{Counts}
+use Rattle.removals.specs.declared.all.NoEarAt.{NoEarAt}
 use Rattle.removals.specs.Site.{mesh_at, mesh_in, Stands}
-use Rattle.removals.specs.Removing.{counts_of, tried_to, mesh_left}
+use Rattle.removals.specs.Removing.{counts_of, no_ear_at, tried_to, mesh_left}
 use Rattle.removals.specs.Standing.{Suits, length_in, mesh_read, stands_of}
 use Rattle.polymesh.specs.Layout.{Sized, used_of, ground_of, site_of}
 use Rattle.polymesh.specs.Gather.{Admitted, Ready, Meshed, comes_to, MeshedTo}
@@ -33,26 +32,21 @@ use Rattle.polymesh.proofs.Grounds.{ground_size, ground_stands, ground_read}
 
 -- ---- the contours' answer
 
-IsMesh : Gathered → Type 0
-IsMesh (Gather.Mesh nv np) = Unit
-IsMesh (Gather.NoEar c k) = ⊥
-
--- the mesh m, of nv vertices and np polygons, came of the contours
-record WasMesh (x : Contours) (nv np : ℕ) : Type 0 where
+-- the mesh m, of n vertices and polygons, came of the contours
+record WasMesh (x : Contours) (n : Counts) : Type 0 where
   mesh : Mesh
   is : x ≡ added mesh
-  vertices : nv ≡ length mesh.vertices
-  polygons : np ≡ length mesh.polygons
+  counts : n ≡ counts_of mesh
 
-was_mesh : (x : Contours) (nv np : ℕ) → Gather.Mesh nv np ≡ gathered_of x → WasMesh x nv np
-unfolding gathered_of IsMesh
-was_mesh (added m) nv np e = record { mesh = m; is = refl; vertices = cc; polygons = cc }
-was_mesh (no_ear_in c k) nv np e = absurd (subst IsMesh e tt)
+was_mesh : (x : Contours) (n : Counts) → Ok n ≡ gathered_of x → WasMesh x n
+unfolding gathered_of
+was_mesh (added m) n e = record { mesh = m; is = refl; counts = cc }
+was_mesh (no_ear_in c k) n e = cc
 
-pub was_no_ear : (x : Contours) (c k : ℕ) → Gather.NoEar c k ≡ gathered_of x → x ≡ no_ear_in c k
-unfolding gathered_of IsMesh
-was_no_ear (added m) c k e = absurd (subst IsMesh (sym e) tt)
-was_no_ear (no_ear_in d i) c k e = cc
+pub was_no_ear : (x : Contours) (i : NoEarIn) → Err i ≡ gathered_of x → x ≡ no_ear_in i.contour i.after
+unfolding gathered_of
+was_no_ear (added m) i e = cc
+was_no_ear (no_ear_in c k) i e = let z : i ≡ no_ear_of c k = cc in sym (ap (λ (y : NoEarIn). no_ear_in y.contour y.after) z)
 
 pub record Came (u : List ℕ) (v t : ℕ) (x : Contours) (n : Counts) : Type 0 where
   pub mesh : Mesh
@@ -62,25 +56,21 @@ pub record Came (u : List ℕ) (v t : ℕ) (x : Contours) (n : Counts) : Type 0 
 
 -- ---- the removals' answer
 
-IsLeft : Removals → Type 0
-IsLeft (Tried.Left n) = Unit
-IsLeft (Tried.Stuck i) = ⊥
-
 record WasLeft (x : Rules.Removals) (n : Counts) : Type 0 where
   mesh : Mesh
   log : List Removal
   is : x ≡ removed mesh log
   counts : n ≡ counts_of mesh
 
-was_left : (x : Rules.Removals) (n : Counts) → Tried.Left n ≡ tried_to x → WasLeft x n
-unfolding tried_to IsLeft
+was_left : (x : Rules.Removals) (n : Counts) → Ok n ≡ tried_to x → WasLeft x n
+unfolding tried_to
 was_left (removed m log) n e = record { mesh = m; log = log; is = refl; counts = cc }
-was_left (stuck_at i) n e = absurd (subst IsLeft e tt)
+was_left (stuck_at i) n e = cc
 
-was_stuck : (x : Rules.Removals) (i : ℕ) → Tried.Stuck i ≡ tried_to x → x ≡ stuck_at i
-unfolding tried_to IsLeft
-was_stuck (removed m log) i e = absurd (subst IsLeft (sym e) tt)
-was_stuck (stuck_at k) i e = cc
+was_stuck : (x : Rules.Removals) (i : NoEarAt) → Err i ≡ tried_to x → x ≡ stuck_at i.vertex
+unfolding tried_to
+was_stuck (removed m log) i e = cc
+was_stuck (stuck_at k) i e = let z : i ≡ no_ear_at k = cc in sym (ap (λ (y : NoEarAt). stuck_at y.vertex) z)
 
 -- ---- what a job comes to
 
@@ -123,20 +113,20 @@ module _ {u₀ : List ℕ} {v t : ℕ} {j : Job} (r : Ready u₀ v t j) where
 
   -- the mesh m, of nv vertices and np polygons, came of the contours and stands in u₁
   module _ {size : ℕ} {u₁ : List ℕ} {g : Ground} (l : size ≡ length u₀) (p : g ≡ ground_of v t) (d : u₁ ≡ ground_in size g (mesh_of (add_all j))) where
-    pub came : {nv np : ℕ} → Gather.Mesh nv np ≡ gathered_of (add_all j) → Came u₁ v t (add_all j) (record { vertices = nv; polygons = np })
+    pub came : {n : Counts} → Ok n ≡ gathered_of (add_all j) → Came u₁ v t (add_all j) n
     unfolding mesh_of
-    came {nv} {np} a =
-        let x = was_mesh (add_all j) nv np a in
+    came {n} a =
+        let x = was_mesh (add_all j) n a in
         record {
           mesh = x.mesh;
           is = x.is;
           words = d ∙ ap (λ (y : Contours). ground_in size g (mesh_of y)) x.is ∙ ap (λ (y : Ground). ground_in size y x.mesh) p
               ∙ ap (λ (k : ℕ). ground_in k (ground_of v t) x.mesh) (l ∙ r.size);
-          counts = ap₂ (λ (a b : ℕ). record { vertices = a; polygons = b }) x.vertices x.polygons;
+          counts = x.counts;
         }
 
   -- a contour has no ear
-  pub no_ear_in_contour : {c k : ℕ} {u : List ℕ} → add_all j ≡ no_ear_in c k → length u ≡ used_of v t → MeshedTo u v t j (Refused (NoEarInContour c))
+  pub no_ear_in_contour : {c k : ℕ} {u : List ℕ} → add_all j ≡ no_ear_in c k → length u ≡ used_of v t → MeshedTo u v t j (Err (NoEarInContour c))
   unfolding cleared reply_of
   no_ear_in_contour {c} e l = record {
     answer = rw e;
@@ -168,14 +158,14 @@ module _ {u₀ : List ℕ} {v t : ℕ} {j : Job} (r : Ready u₀ v t j) where
       comes x y = ap (cleared j) e ∙ ap (linked j) y
 
       -- a hole has no ear
-      no_ear_in_hole : {i : ℕ} → Tried.Stuck i ≡ tried_to (remove_all j.nvp (mesh_at u₁ (site_of v t) n)) → MeshedTo u₂ v t j (Refused (NoEarInHole i))
+      no_ear_in_hole : {i : NoEarAt} → Err i ≡ tried_to (remove_all j.nvp (mesh_at u₁ (site_of v t) n)) → MeshedTo u₂ v t j (Err (NoEarInHole i.vertex))
       unfolding linked reply_of
       no_ear_in_hole {i} a =
-          let y = comes (stuck_at i) (was_stuck (remove_all j.nvp m) i (rw (try_read q) at a)) in
-          record { answer = sym (ap reply_of y); size = long_now; mesh = λ o ls log d. absurd (no_refusal j o ls log (NoEarInHole i) (sym y ∙ d)) }
+          let y = comes (stuck_at i.vertex) (was_stuck (remove_all j.nvp m) i (rw (try_read q) at a)) in
+          record { answer = sym (ap reply_of y); size = long_now; mesh = λ o ls log d. absurd (no_refusal j o ls log (NoEarInHole i.vertex) (sym y ∙ d)) }
 
       -- all are tried
-      module _ {p : Counts} (a : Tried.Left p ≡ tried_to (remove_all j.nvp (mesh_at u₁ (site_of v t) n))) where
+      module _ {p : Counts} (a : Ok p ≡ tried_to (remove_all j.nvp (mesh_at u₁ (site_of v t) n))) where
         left : WasLeft (remove_all j.nvp m) p
         left = was_left (remove_all j.nvp m) p (rw (try_read q) at a)
 
@@ -201,12 +191,12 @@ module _ {u₀ : List ℕ} {v t : ℕ} {j : Job} (r : Ready u₀ v t j) where
         same_mesh : (x : Mesh) (ls ks : List (List ℕ)) (log : List Removal) → built o ls left.log ≡ built x ks log → o ≡ x
         same_mesh x ls ks log d = cc
 
-        all_tried : MeshedTo u₂ v t j (Built p.polygons p.vertices)
+        all_tried : MeshedTo u₂ v t j (Ok (as_built p.polygons p.vertices))
         unfolding linked reply_of o
         all_tried =
             let y = comes (removed left.mesh left.log) left.is in
             record {
-              answer = ap (λ (c : Counts). Built c.polygons c.vertices) left.counts ∙ sym (ap reply_of y);
+              answer = ap (λ (c : Counts). Ok (as_built c.polygons c.vertices)) left.counts ∙ sym (ap reply_of y);
               size = long_now;
               mesh = λ x ks log d. subst (Meshed u₂ v t j.nvp) (same_mesh x _ ks log (sym y ∙ d)) left_meshed;
             }
@@ -217,8 +207,8 @@ module _ {u₀ : List ℕ} {v t : ℕ} {j : Job} (r : Ready u₀ v t j) where
     try_came = try_ready (y ∙ x.is) x.words x.counts
 
     module _ {u₂ : List ℕ} (f : u₂ ≡ mesh_in u₁ (site_of v t) (mesh_left (remove_all j.nvp (mesh_at u₁ (site_of v t) n)))) where
-      pub stuck_came : {i : ℕ} → Tried.Stuck i ≡ tried_to (remove_all j.nvp (mesh_at u₁ (site_of v t) n)) → MeshedTo u₂ v t j (Refused (NoEarInHole i))
+      pub stuck_came : {i : NoEarAt} → Err i ≡ tried_to (remove_all j.nvp (mesh_at u₁ (site_of v t) n)) → MeshedTo u₂ v t j (Err (NoEarInHole i.vertex))
       stuck_came a = no_ear_in_hole (y ∙ x.is) x.words x.counts f a
 
-      pub left_came : {p : Counts} → Tried.Left p ≡ tried_to (remove_all j.nvp (mesh_at u₁ (site_of v t) n)) → MeshedTo u₂ v t j (Built p.polygons p.vertices)
+      pub left_came : {p : Counts} → Ok p ≡ tried_to (remove_all j.nvp (mesh_at u₁ (site_of v t) n)) → MeshedTo u₂ v t j (Ok (as_built p.polygons p.vertices))
       left_came a = all_tried (y ∙ x.is) x.words x.counts f a

@@ -25,7 +25,7 @@ use Rattle.links.specs.Tables.{edged}
 use Rattle.links.specs.Ready.{corners_in, LinkReady, link_records, links_at, PortalReady, portals_at}
 use Rattle.links.specs.Counts.{corners_spares}
 use Rattle.links.specs.Linked.{length_links, linked_size, linked_polygons, linked_links, linked_vertices, linked_ready, marked_links}
-use Rattle.removals.specs.declared.site.Counts.{Counts}
+use Rattle.records.specs.declared.counts.Counts.{Counts}
 use Rattle.removals.specs.Site.{mesh_at}
 use Rattle.polymesh.specs.Layout.{polygons_of, site_of, edge_tables_of, link_place_of}
 use Rattle.polymesh.specs.Linking.{links_with, LinkableReady, LinkedTo}

@@ -1,6 +1,7 @@
 -- The checks and the build together: what each reply comes to, on any numbers. Assumes nothing.
 -- Key: `refused_all`: a check refuses, and nothing is written; `build_ready`: a job that passes can be built; `built_all`: what the buffers hold then.
 use Rattle.std.specs.Prelude.{Option, Some, None}
+use Rattle.std.specs.Prelude.{Err}
 use mathlib.Core.Path.{◌≡◌, refl, sym, ap, ap₂, ◌∙◌}
 use mathlib.Core.Bool.{Bool, true, false, cond}
 use mathlib.Core.List.{List, ◌++◌}
@@ -20,8 +21,7 @@ use Rattle.rules.specs.declared.Header.{Header}
 use Rattle.rules.specs.declared.Answer.{Answer}
 use Rattle.rules.specs.declared.Refusal.{Refusal}
 use Rattle.rules.specs.declared.Refusal.TheVariants.{BadCornerLimit, CountsDisagree, HighCoordinate, BadFlag, TooManyVertices, ShortBuffer}
-use Rattle.rules.specs.declared.Reply.{Reply}
-use Rattle.rules.specs.declared.Reply.TheVariants.{Refused}
+use Rattle.rules.specs.Replies.{Reply}
 use Rattle.laws.specs.Checks.{Passed}
 use Rattle.laws.proofs.Checks.{checked, agreed}
 use Rattle.laws.proofs.Widths.{written_fits}
@@ -85,7 +85,7 @@ quiet_check j ls =
     (quiet_or _ _ (quiet_if _ (TooManyVertices (count_v j)) refl) (quiet_at ShortBuffer (λ k. refl) (first_short ls (least_lengths j)))))))
 
 refused_answer : (h : Header) (j : Job) (b : Lent) {r : Refusal} → check j (lengths_of b) ≡ refusal r
-    → ◌≡◌ {A = Answer} (record { reply = Refused r; header = h }) (answer h j b)
+    → ◌≡◌ {A = Answer} (record { reply = Err r; header = h }) (answer h j b)
 unfolding answer outcome after_check reply_of
 refused_answer h j b e = rw e
 
@@ -95,7 +95,7 @@ refused_exit j b {r} e =
     sym (ap (λ (c : Checked). exit_of j b (after_check j c)) e ∙ ap (λ (q : Bool). cond q b (only_wiped j b)) (quiet_check j (lengths_of b) r e))
 
 pub refused_all : (h : Header) (j : Job) (b : Lent) {r : Refusal} → check j (lengths_of b) ≡ refusal r
-    → Ended h j b (record { reply = Refused r; header = h }) b
+    → Ended h j b (record { reply = Err r; header = h }) b
 refused_all h j b e = ended h j b (refused_answer h j b e) (refused_exit j b e)
 
 -- ---- a job that passes

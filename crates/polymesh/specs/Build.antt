@@ -7,7 +7,7 @@ use Rattle.rules.specs.Checks.{Lent, vertex_stride}
 use Rattle.rules.specs.Build.{built, reply_of}
 use Rattle.rules.specs.Exits.{wiped, exit_of}
 use Rattle.rules.specs.Widths.{Fits}
-use Rattle.rules.specs.declared.Reply.{Reply}
+use Rattle.rules.specs.Replies.{Reply}
 use Rattle.outputs.specs.Ready.{buffers}
 use Rattle.polymesh.specs.Gather.{Admitted, comes_to}
 

@@ -4,7 +4,7 @@ use Rattle.rules.specs.Mesh.{Mesh}
 use Rattle.rules.specs.Removal.{Removal}
 use Rattle.rules.specs.Job.{Job, count_v, count_t}
 use Rattle.rules.specs.Build.{Outcome, built, cleared, add_all, reply_of}
-use Rattle.rules.specs.declared.Reply.{Reply}
+use Rattle.rules.specs.Replies.{Reply}
 use Rattle.laws.specs.Checks.{Passed}
 use Rattle.removals.specs.Site.{mesh_at, Stands}
 use Rattle.removals.specs.Removing.{counts_of}

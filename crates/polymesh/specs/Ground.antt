@@ -2,18 +2,18 @@
 -- stored vertices, have the contours' area, less what open removals took. It is a corollary of the contract of `into_polygon_mesh` alone: r and u are what that
 -- contract says of the answer and of the buffers at exit. Assumes nothing.
 -- Key: `ground_kept`.
-use Rattle.std.specs.Prelude.{◌≡◌, refl, List, ℕ, length, ◌-ℤ◌}
+use Rattle.std.specs.Prelude.{◌≡◌, refl, List, ℕ, length, ◌-ℤ◌, Ok}
 use Rattle.std.proofs.Common.{sym, ap, ap₂, ◌∙◌}
 use Rattle.rules.specs.Mesh.{Mesh}
 use Rattle.rules.specs.Removal.{Removal}
 use Rattle.rules.specs.Job.{Job}
 use Rattle.rules.specs.Checks.{Lent}
+use Rattle.rules.specs.Replies.{as_built}
 use Rattle.rules.specs.Build.{built, outcome, answer}
 use Rattle.rules.specs.Exits.{exits, decoded}
 use Rattle.rules.specs.Areas.{sum_of, mesh_area, stored_area, job_area, area_taken}
 use Rattle.rules.specs.declared.Header.{Header}
 use Rattle.rules.specs.declared.Answer.{Answer}
-use Rattle.rules.specs.declared.Reply.TheVariants.{Built}
 use Rattle.laws.specs.Replies.{WasBuilt}
 use Rattle.laws.proofs.Replies.{was_built}
 use Rattle.laws.proofs.Laws.{area_law}
@@ -44,6 +44,6 @@ from_mesh j b u n k a d =
     }
 
 pub ground_kept : (h : Header) (j : Job) (b : Lent) (r : Answer) (u : Lent) → r ≡ answer h j b → u ≡ exits j b
-    → (n k : ℕ) → r.reply ≡ Built n k → GroundKept j b u n k
+    → (n k : ℕ) → r.reply ≡ Ok (as_built n k) → GroundKept j b u n k
 unfolding answer
 ground_kept h j b r u e d n k q = from_mesh j b u n k (was_built (outcome j b) n k (sym q ∙ ap (λ (a : Answer). a.reply) e)) d

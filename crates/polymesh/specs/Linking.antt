@@ -7,7 +7,7 @@ use Rattle.rules.specs.Portals.{portals}
 use Rattle.records.specs.Layout.{most_corners}
 use Rattle.links.specs.Tables.{edged}
 use Rattle.links.specs.Ready.{link_records}
-use Rattle.removals.specs.declared.site.Counts.{Counts}
+use Rattle.records.specs.declared.counts.Counts.{Counts}
 use Rattle.removals.specs.Site as Removals
 use Rattle.removals.specs.Site.{mesh_at}
 use Rattle.outputs.specs.declared.store.Places.{Places}

@@ -8,11 +8,11 @@ ghost use Rattle.polymesh.specs.Build.{BuildReady, MadeTo, BuiltTo};
 
 use crate::layout::{ground, places, site, used_words};
 use crate::link::link_mesh;
-use contours::gather::{Gathered, add_contours};
+use contours::gather::add_contours;
 use outputs::store::store_mesh;
-use removals::all::{Removals, remove_all};
-use removals::site::Counts;
-use rules::{Refusal, Reply};
+use records::counts::Counts;
+use removals::all::remove_all;
+use rules::{Built, Reply};
 use words::fill::fill;
 
 // Zeros in the whole work buffer.
@@ -39,25 +39,12 @@ fn gather_mesh(
     ensures { (w h border : ℕ) → MeshedTo work.new v t (job_of nvp w h border lengths.now regions.now codes.now numbers.now) result }
 {
     wipe(work);
-    match add_contours(work, ground(v, t), nvp, lengths, regions, codes, numbers) {
-        Gathered::NoEar(c, _) => {
-            return Reply::Refused(Refusal::NoEarInContour(c as u64));
-        }
-        Gathered::Mesh(nv, np) => {
-            let n = Counts {
-                vertices: nv,
-                polygons: np,
-            };
-            match remove_all(work, site(v, t), n, nvp) {
-                Removals::Stuck(i) => {
-                    return Reply::Refused(Refusal::NoEarInHole(i as u64));
-                }
-                Removals::Left(c) => {
-                    return Reply::Built(c.polygons as u64, c.vertices as u64);
-                }
-            }
-        }
-    }
+    let n = add_contours(work, ground(v, t), nvp, lengths, regions, codes, numbers)?;
+    let left = remove_all(work, site(v, t), n, nvp)?;
+    Ok(Built {
+        polygons: left.polygons as u64,
+        vertices: left.vertices as u64,
+    })
 }
 
 // The job's mesh is made in the work buffer, which has just the words that it uses, and goes into the six other buffers; or
@@ -84,31 +71,25 @@ fn make_mesh(
     requires { ((x y z : ℕ) → Admitted v t (job_of nvp x y z lengths.now regions.now codes.now numbers.now)) × BuildReady (used_of v t) v t (job_of nvp w h border lengths.now regions.now codes.now numbers.now) (buffers vertices.old polygons.old neighbours.old polyregions.old polycodes.old flags.old work.old) }
     ensures { MadeTo (job_of nvp w h border lengths.now regions.now codes.now numbers.now) (buffers vertices.old polygons.old neighbours.old polyregions.old polycodes.old flags.old work.old) (buffers vertices.new polygons.new neighbours.new polyregions.new polycodes.new flags.new work.new) result }
 {
-    match gather_mesh(work, v, t, nvp, lengths, regions, codes, numbers) {
-        Reply::Refused(r) => {
-            return Reply::Refused(r);
-        }
-        Reply::Built(np, nv) => {
-            let n = Counts {
-                vertices: nv as usize,
-                polygons: np as usize,
-            };
-            let at = places(v, t, n);
-            link_mesh(work, v, t, n, w, h, border);
-            store_mesh(
-                work,
-                at,
-                nvp,
-                vertices,
-                polygons,
-                neighbours,
-                polyregions,
-                polycodes,
-                flags,
-            );
-            return Reply::Built(np, nv);
-        }
-    }
+    let built = gather_mesh(work, v, t, nvp, lengths, regions, codes, numbers)?;
+    let n = Counts {
+        vertices: built.vertices as usize,
+        polygons: built.polygons as usize,
+    };
+    let at = places(v, t, n);
+    link_mesh(work, v, t, n, w, h, border);
+    store_mesh(
+        work,
+        at,
+        nvp,
+        vertices,
+        polygons,
+        neighbours,
+        polyregions,
+        polycodes,
+        flags,
+    );
+    Ok(built)
 }
 
 // The same in the words that are lent for it, which are zeros at the end.

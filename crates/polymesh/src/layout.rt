@@ -7,7 +7,8 @@ ghost use Rattle.polymesh.specs.Linking.{places_of};
 use contours::ground::Ground;
 use links::edges::EdgeTables;
 use outputs::store::Places;
-use removals::site::{Counts, Site};
+use records::counts::Counts;
+use removals::site::Site;
 
 // Where the vertices begin, behind the buckets.
 const VERTICES: usize = 4096;
@@ -45,9 +46,9 @@ pub fn ground(v: usize, t: usize) -> Ground
         buckets: 0,
         vertices: VERTICES,
         nexts: VERTICES + 5 * v,
-        v: v,
+        v,
         polygons: polygons_at(v),
-        t: t,
+        t,
         scratch: scratch_at(v, t),
     }
 }
@@ -59,9 +60,9 @@ pub fn site(v: usize, t: usize) -> Site
 {
     Site {
         vertices: VERTICES,
-        v: v,
+        v,
         polygons: polygons_at(v),
-        t: t,
+        t,
         scratch: scratch_at(v, t),
     }
 }
@@ -74,8 +75,8 @@ pub fn edge_tables(v: usize, t: usize) -> EdgeTables
     let firsts = scratch_at(v, t);
     let edges = firsts + v;
     EdgeTables {
-        firsts: firsts,
-        edges: edges,
+        firsts,
+        edges,
         nexts: edges + 18 * t,
     }
 }

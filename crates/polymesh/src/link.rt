@@ -4,7 +4,7 @@ ghost use Rattle.polymesh.specs.Linking.{LinkableReady, LinkedTo};
 use crate::layout::{edge_tables, links_at, site};
 use links::adjacency::build_mesh_adjacency;
 use links::portals::mark_portals;
-use removals::site::Counts;
+use records::counts::Counts;
 
 // The sides of the mesh's polygons are linked, and with a border the open ones on the edge of the grid, w by h, become
 // portals.

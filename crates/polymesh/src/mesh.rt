@@ -7,10 +7,10 @@ ghost use Rattle.checks.specs.Answers.{job_of};
 ghost use Rattle.outputs.specs.Ready.{buffers};
 
 use crate::build::build;
-use checks::check::{Verdict, check};
+use checks::check::check;
 use checks::counts::{count_t, count_v};
 use checks::room::work_words;
-use rules::{Answer, Header, Reply};
+use rules::{Answer, Header};
 
 // Contours become a polygon mesh, or the first refusal that applies is given. Any numbers may be handed in. A job has the
 // most corners of a polygon, the grid's width, height and border, and for each contour a length, a region and an area code;
@@ -49,40 +49,33 @@ pub fn into_polygon_mesh(
         flags.len(),
         work.len(),
     ];
-    match check(nvp, lengths, regions, codes, numbers, have) {
-        Verdict::Refused(r) => {
-            return Answer {
-                reply: Reply::Refused(r),
-                header: header,
-            };
-        }
-        Verdict::Passed => {
-            let v = count_v(lengths);
-            let t = count_t(lengths);
-            let n = work_words(v);
-            let reply = build(
-                v,
-                t,
-                nvp as usize,
-                w,
-                h,
-                border,
-                lengths,
-                regions,
-                codes,
-                numbers,
-                vertices,
-                polygons,
-                neighbours,
-                polyregions,
-                polycodes,
-                flags,
-                &mut work[..n],
-            );
-            return Answer {
-                reply: reply,
-                header: header,
-            };
-        }
+    if let Err(refusal) = check(nvp, lengths, regions, codes, numbers, have) {
+        return Answer {
+            reply: Err(refusal),
+            header,
+        };
     }
+    let v = count_v(lengths);
+    let t = count_t(lengths);
+    let n = work_words(v);
+    let reply = build(
+        v,
+        t,
+        nvp as usize,
+        w,
+        h,
+        border,
+        lengths,
+        regions,
+        codes,
+        numbers,
+        vertices,
+        polygons,
+        neighbours,
+        polyregions,
+        polycodes,
+        flags,
+        &mut work[..n],
+    );
+    Answer { reply, header }
 }

@@ -28,7 +28,7 @@ use Rattle.trails.specs.Trails.{walk_size, WalkReady, WalkedTo}
 use Rattle.trails.specs.declared.walk.Walked.{Walked}
 use Rattle.holes.specs.Clear.{TidyVertices, ClearReady, ClearedTo}
 use Rattle.removals.specs.declared.site.Site.{Site}
-use Rattle.removals.specs.declared.site.Counts.{Counts}
+use Rattle.records.specs.declared.counts.Counts.{Counts}
 use Rattle.removals.specs.Site.{mesh_at, mesh_in, Fits, Stands}
 use Rattle.removals.specs.Removing.{ClosedTo, RemoveReady, hole_around, opened_in, OpenedTo}
 use Rattle.holes.specs.Small.{small_good}

@@ -1,5 +1,6 @@
 -- The hole is filled, or there is no ear to cut: what stands in the mesh's place then. Assumes nothing.
 -- Key: `fill_ready`: the hole can be filled; `filled_words` and `empty_words`: what stands there at the end.
+use Rattle.std.specs.Prelude.{Some, None, max}
 use mathlib.Core.Path.{◌≡◌, refl, sym, ap, ap₂, subst, ◌∙◌}
 use mathlib.Core.Bool.{cond}
 use mathlib.Core.Logic.{⊎_elim}
@@ -34,12 +35,9 @@ use Rattle.records.specs.Blanks.{blanks_small}
 use Rattle.records.specs.Fixed.{point_fixed, fixed_length}
 use Rattle.trails.specs.Trails.{walk_room}
 use Rattle.holes.specs.Fill.{FillReady, hole_polygons, filled_of, filled_in}
-use Rattle.holes.specs.declared.fill.Filled.{Filled}
-use Rattle.holes.specs.declared.fill.Filled.TheVariants.{Polygons, NoEars}
 use Rattle.removals.specs.declared.site.Site.{Site}
-use Rattle.removals.specs.declared.site.Counts.{Counts}
+use Rattle.records.specs.declared.counts.Counts.{Counts}
 use Rattle.removals.specs.declared.open.Hole.{Hole}
-use Rattle.removals.specs.declared.remove.Removed.TheVariants as Answer
 use Rattle.removals.specs.Site.{mesh_at, scratch_room, standing, mesh_in, Fits}
 use Rattle.removals.specs.Removing.{RemoveReady, hole_around, opened_in, OpenedTo, removed_to, mesh_after}
 use Rattle.removals.specs.Stages.{Stage, stage_size, write_polygons, write_scratch, anew_vertices, anew_polygons, anew_scratch, stage_fits, vertices_read, scratch_read}
@@ -71,22 +69,14 @@ pub record WasEmpty (t : Ears) : Type 0 where
   pub k : ℕ
   pub is : t ≡ stuck k
 
-IsFilled : Filled → Type 0
-IsFilled (Polygons k) = Unit
-IsFilled NoEars = ⊥
+was_filled : (vs : List Vertex) (nvp : ℕ) (hole : List ChainPoint) (t : Ears) (k : ℕ) → Some k ≡ filled_of vs nvp hole t → WasFilled vs nvp hole t k
+unfolding filled_of
+was_filled vs nvp hole (done ts) k e = record { ts = ts; is = refl; count = cc }
+was_filled vs nvp hole (stuck j) k e = cc
 
-number : Filled → ℕ
-number (Polygons k) = k
-number NoEars = 0
-
-was_filled : (vs : List Vertex) (nvp : ℕ) (hole : List ChainPoint) (t : Ears) (k : ℕ) → Polygons k ≡ filled_of vs nvp hole t → WasFilled vs nvp hole t k
-unfolding filled_of IsFilled number
-was_filled vs nvp hole (done ts) k e = record { ts = ts; is = refl; count = ap number e }
-was_filled vs nvp hole (stuck j) k e = absurd (subst IsFilled e tt)
-
-was_empty : (vs : List Vertex) (nvp : ℕ) (hole : List ChainPoint) (t : Ears) → NoEars ≡ filled_of vs nvp hole t → WasEmpty t
-unfolding filled_of IsFilled
-was_empty vs nvp hole (done ts) e = absurd (subst IsFilled (sym e) tt)
+was_empty : (vs : List Vertex) (nvp : ℕ) (hole : List ChainPoint) (t : Ears) → None ≡ filled_of vs nvp hole t → WasEmpty t
+unfolding filled_of
+was_empty vs nvp hole (done ts) e = cc
 was_empty vs nvp hole (stuck j) e = record { k = j; is = refl }
 
 -- ---- the hole can be filled
@@ -209,7 +199,7 @@ module _ {w : List ℕ} {s : Site} {n : Counts} {nvp rem : ℕ} (r : RemoveReady
       (e : y ≡ filled_in u (vertices_at u s.vertices (n.vertices - 1)) nvp (s.polygons + h.left * polygon_size) (s.scratch + s.t * walk_room) (points_at u s.scratch h.points)
       (triangulate (places_of (vertices_at u s.vertices (n.vertices - 1)) (points_at u s.scratch h.points)))) where
     -- no ear to cut
-    module _ (a : NoEars ≡ filled_of (vertices_at u s.vertices (n.vertices - 1)) nvp (points_at u s.scratch h.points)
+    module _ (a : None ≡ filled_of (vertices_at u s.vertices (n.vertices - 1)) nvp (points_at u s.scratch h.points)
         (triangulate (places_of (vertices_at u s.vertices (n.vertices - 1)) (points_at u s.scratch h.points)))) where
       none : WasEmpty (triangulate (places_of vs hole))
       none = was_empty vs nvp hole (triangulate (places_of vs hole)) (rw (read_vertices, read_points) at a)
@@ -230,7 +220,7 @@ module _ {w : List ℕ} {s : Site} {n : Counts} {nvp rem : ℕ} (r : RemoveReady
       pub empty_fits : Fits y s × (s.scratch + h.points * point_size ≤ length y)
       empty_fits = (stage_fits f empty_stage, omega (arith, least, most, stage_size f empty_stage, f.scratch))
 
-      pub empty_answer : Answer.NoEars ≡ removed_to (remove_vertex nvp rem (mesh_at w s n))
+      pub empty_answer : None ≡ removed_to (remove_vertex nvp rem (mesh_at w s n))
       unfolding removed_to
       empty_answer = rw nothing
 
@@ -246,7 +236,7 @@ module _ {w : List ℕ} {s : Site} {n : Counts} {nvp rem : ℕ} (r : RemoveReady
           d.is ∙ rw (nothing, no_vertices, no_polygons)
 
     -- it is filled with k polygons
-    module _ {k : ℕ} (a : Polygons k ≡ filled_of (vertices_at u s.vertices (n.vertices - 1)) nvp (points_at u s.scratch h.points)
+    module _ {k : ℕ} (a : Some k ≡ filled_of (vertices_at u s.vertices (n.vertices - 1)) nvp (points_at u s.scratch h.points)
         (triangulate (places_of (vertices_at u s.vertices (n.vertices - 1)) (points_at u s.scratch h.points)))) where
       some : WasFilled vs nvp hole (triangulate (places_of vs hole)) k
       some = was_filled vs nvp hole (triangulate (places_of vs hole)) k (rw (read_vertices, read_points) at a)
@@ -339,24 +329,17 @@ module _ {w : List ℕ} {s : Site} {n : Counts} {nvp rem : ℕ} (r : RemoveReady
           (omega (arith, points, least, most, fixed_length point_fixed hole)) (omega (arith, points, least, most)))
           stage.scratch
 
-      module _ {far : ℕ} (g : far ≡ cond (ltb n.polygons (h.left + (h.points - 2))) (h.left + (h.points - 2)) n.polygons) where
+      module _ {far : ℕ} (g : far ≡ max n.polygons (h.left + (h.points - 2))) where
         far_cases : (n.polygons ≤ far) × (h.left + (h.points - 2) ≤ far) × (far ≤ s.t)
-        far_cases = ⊎_elim
-            (λ (l : n.polygons < h.left + (h.points - 2)).
-            let q : far ≡ h.left + (h.points - 2) = g ∙ rw (lt-ltb n.polygons (h.left + (h.points - 2)) l) in
-            (omega arith, omega arith, omega (arith, most, least)))
-            (λ (l : h.left + (h.points - 2) ≤ n.polygons).
-            let q : far ≡ n.polygons = g ∙ rw (le-ltb n.polygons (h.left + (h.points - 2)) l) in
-            (omega arith, omega arith, omega (arith, stands_few r.stands)))
-            (lt_or_le n.polygons (h.left + (h.points - 2)))
+        far_cases = (omega arith, omega arith, omega (arith, most, least, stands_few r.stands))
 
         pub tidy_ready : (h.left + k ≤ far) × (s.polygons + far * polygon_size ≤ s.scratch) × (s.scratch + h.points * point_size ≤ length y)
         tidy_ready =
             (omega (arith, fewer, far_cases), omega (arith, far_cases, f.polygons), omega (arith, least, most, f.scratch, stage_size f filled_stage))
 
-        pub filled_answer : Answer.Gone (h.left + k) ≡ removed_to (remove_vertex nvp rem (mesh_at w s n))
+        pub filled_answer : Some (h.left + k) ≡ removed_to (remove_vertex nvp rem (mesh_at w s n))
         unfolding removed_to remove_vertex fill_hole vs hole hole_around pl hp hole_polygons
-        filled_answer = rw some.is (ap Answer.Gone (omega (arith, left, counted, length-append pl hp)))
+        filled_answer = rw some.is (ap Some (omega (arith, left, counted, length-append pl hp)))
 
         -- zeros over the blank records
         size_both : length (P ++ H) ≡ (h.left + k) * polygon_size

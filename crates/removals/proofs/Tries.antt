@@ -1,5 +1,6 @@
 -- All marked vertices are tried: what a try asks for, and what it makes of the mesh that stands there. Assumes nothing.
 -- Key: `Left` holds before each try; `left_stays`, `left_gone` and `left_stuck`: a vertex stays, goes, or its hole has no ear; `left_all`: all are tried.
+use Rattle.std.specs.Prelude.{Some, None, Ok, Err}
 use mathlib.Core.Path.{◌≡◌, refl, sym, ap, ap₂, subst, ◌∙◌}
 use mathlib.Core.Bool.{Bool, true, false}
 use mathlib.Core.List.{List, [], ◌∷◌, ◌++◌}
@@ -25,12 +26,9 @@ use Rattle.records.specs.Polygons.{length_polygons}
 use Rattle.trails.specs.Trails.{walk_room}
 use Rattle.holes.specs.Verdict.{TestReady, Tested}
 use Rattle.removals.specs.declared.site.Site.{Site}
-use Rattle.removals.specs.declared.site.Counts.{Counts}
-use Rattle.removals.specs.declared.remove.Removed.{Removed}
-use Rattle.removals.specs.declared.remove.Removed.TheVariants.{Gone, NoEars}
-use Rattle.removals.specs.declared.all.Removals.TheVariants as Answer
+use Rattle.records.specs.declared.counts.Counts.{Counts}
 use Rattle.removals.specs.Site.{mesh_at, scratch_room, mesh_in, Stands}
-use Rattle.removals.specs.Removing.{RemoveReady, removed_to, mesh_after, counts_of, tried_to, mesh_left}
+use Rattle.removals.specs.Removing.{RemoveReady, removed_to, mesh_after, counts_of, no_ear_at, tried_to, mesh_left}
 use Rattle.removals.specs.Stages.{all_scratch}
 use Rattle.removals.specs.Standing.{Suits, length_in, mesh_in_again, mesh_read, stands_of}
 use Rattle.removals.proofs.Opens.{stands_small, stands_long, stands_few, stands_stage}
@@ -70,14 +68,6 @@ module _ {w : List ℕ} {s : Site} {n : Counts} {nvp : ℕ} (r : Stands w s n nv
 
 -- ---- all of them
 
-IsGone : Removed → Type 0
-IsGone (Gone k) = Unit
-IsGone NoEars = ⊥
-
-number : Removed → ℕ
-number (Gone k) = k
-number NoEars = 0
-
 -- the vertex went, and k polygons are left
 record WasGone (t : Rules.Removed) (k : ℕ) : Type 0 where
   mesh : Mesh
@@ -85,14 +75,14 @@ record WasGone (t : Rules.Removed) (k : ℕ) : Type 0 where
   is : t ≡ gone mesh log
   count : k ≡ length mesh.polygons
 
-was_gone : (t : Rules.Removed) (k : ℕ) → Gone k ≡ removed_to t → WasGone t k
-unfolding removed_to IsGone number
-was_gone (gone m r) k e = record { mesh = m; log = r; is = refl; count = ap number e }
-was_gone no_ears k e = absurd (subst IsGone e tt)
+was_gone : (t : Rules.Removed) (k : ℕ) → Some k ≡ removed_to t → WasGone t k
+unfolding removed_to
+was_gone (gone m r) k e = record { mesh = m; log = r; is = refl; count = cc }
+was_gone no_ears k e = cc
 
-was_stuck : (t : Rules.Removed) → NoEars ≡ removed_to t → t ≡ no_ears
-unfolding removed_to IsGone
-was_stuck (gone m r) e = absurd (subst IsGone (sym e) tt)
+was_stuck : (t : Rules.Removed) → None ≡ removed_to t → t ≡ no_ears
+unfolding removed_to
+was_stuck (gone m r) e = cc
 was_stuck no_ears e = refl
 
 -- of the mesh that stood in w₀ the vertices below i are tried: n are left in w, and the rest is still to be tried
@@ -145,12 +135,12 @@ module _ {w₀ : List ℕ} {s : Site} {n₀ : Counts} {nvp : ℕ} (r : Stands w�
   abbrev all : Rules.Removals
   all = remove_all nvp (mesh_at w₀ s n₀)
 
-  pub left_all : n.vertices ≤ i → (Answer.Left n ≡ tried_to (remove_all nvp (mesh_at w₀ s n₀))) × (w ≡ mesh_in w₀ s (mesh_left (remove_all nvp (mesh_at w₀ s n₀))))
+  pub left_all : n.vertices ≤ i → (Ok n ≡ tried_to (remove_all nvp (mesh_at w₀ s n₀))) × (w ≡ mesh_in w₀ s (mesh_left (remove_all nvp (mesh_at w₀ s n₀))))
   unfolding tried_to mesh_left
   left_all h =
       let e : all ≡ removed (mesh_at w s n) g.log =
       g.same ∙ (trying_turns nvp i (mesh_at w s n) g.log).end (rw (length_vertices w s.vertices n.vertices) h) in
-      (ap Answer.Left (sym (counts_are w s n)) ∙ sym (ap tried_to e), g.is ∙ sym (ap (λ (x : Rules.Removals). mesh_in w₀ s (mesh_left x)) e))
+      (ap Ok (sym (counts_are w s n)) ∙ sym (ap tried_to e), g.is ∙ sym (ap (λ (x : Rules.Removals). mesh_in w₀ s (mesh_left x)) e))
 
   module _ (h : i < n.vertices) where
     here : i < length (mesh_at w s n).vertices
@@ -224,7 +214,7 @@ module _ {w₀ : List ℕ} {s : Site} {n₀ : Counts} {nvp : ℕ} (r : Stands w�
 
       -- its hole has no ear
       no_ear_lem : remove_vertex nvp i (mesh_at w s n) ≡ no_ears
-          → (Answer.Stuck i ≡ tried_to (remove_all nvp (mesh_at w₀ s n₀))) × (x ≡ mesh_in w₀ s (mesh_left (remove_all nvp (mesh_at w₀ s n₀))))
+          → (Err (no_ear_at i) ≡ tried_to (remove_all nvp (mesh_at w₀ s n₀))) × (x ≡ mesh_in w₀ s (mesh_left (remove_all nvp (mesh_at w₀ s n₀))))
       unfolding tried_to mesh_left mesh_after
       no_ear_lem q =
           let f : all ≡ stuck_at i = g.same ∙ (trying_turns nvp i (mesh_at w s n) g.log).stuck here e q in (
@@ -243,13 +233,13 @@ module _ {w₀ : List ℕ} {s : Site} {n₀ : Counts} {nvp : ℕ} (r : Stands w�
           (record { stands = g.stands; below = h; may = goes_may i (mesh_at w s n) (sym t.answer ∙ e) })
 
       module _ (e : b ≡ true) {x : List ℕ} (d : x ≡ mesh_in u s (mesh_after (remove_vertex nvp i (mesh_at u s n)))) where
-        pub left_gone : {k : ℕ} → Gone k ≡ removed_to (remove_vertex nvp i (mesh_at u s n)) → Left w₀ s n₀ nvp x (record { vertices = n.vertices - 1; polygons = k }) i
+        pub left_gone : {k : ℕ} → Some k ≡ removed_to (remove_vertex nvp i (mesh_at u s n)) → Left w₀ s n₀ nvp x (record { vertices = n.vertices - 1; polygons = k }) i
         left_gone {k} a =
             let f = sym t.answer ∙ e in
             let c = rw t.is at d in
             let q = was_gone (remove_vertex nvp i (mesh_at w s n)) k (rw t.is at a) in
             subst (λ (y : Counts). Left w₀ s n₀ nvp x y i) (counts_now f c q) (goes_now f c q)
 
-        pub left_stuck : NoEars ≡ removed_to (remove_vertex nvp i (mesh_at u s n))
-            → (Answer.Stuck i ≡ tried_to (remove_all nvp (mesh_at w₀ s n₀))) × (x ≡ mesh_in w₀ s (mesh_left (remove_all nvp (mesh_at w₀ s n₀))))
+        pub left_stuck : None ≡ removed_to (remove_vertex nvp i (mesh_at u s n))
+            → (Err (no_ear_at i) ≡ tried_to (remove_all nvp (mesh_at w₀ s n₀))) × (x ≡ mesh_in w₀ s (mesh_left (remove_all nvp (mesh_at w₀ s n₀))))
         left_stuck a = no_ear_lem (sym t.answer ∙ e) (rw t.is at d) (was_stuck (remove_vertex nvp i (mesh_at w s n)) (rw t.is at a))

@@ -1,5 +1,5 @@
 -- What the functions of a removal ask for, and what they leave. Definitions only.
-use Rattle.std.specs.Prelude.{◌≡◌, List, ◌++◌, ℕ, ◌-◌, ◌*◌, ◌≤◌, ◌<◌, length, replicate}
+use Rattle.std.specs.Prelude.{◌≡◌, List, ◌++◌, ℕ, ◌-◌, ◌*◌, ◌≤◌, ◌<◌, length, replicate, Option, Some, None, Result, Ok, Err}
 use Rattle.mem.specs.Slice.{splice}
 use Rattle.rules.specs.Lists.{without}
 use Rattle.rules.specs.Mesh.{no_polygon, Mesh, no_mesh}
@@ -9,12 +9,9 @@ use Rattle.rules.specs.declared.ChainPoint.{ChainPoint}
 use Rattle.laws.specs.Removal.{Removable}
 use Rattle.records.specs.Layout.{vertex_records, polygon_records, point_size, points_at, point_records}
 use Rattle.removals.specs.declared.site.Site.{Site}
-use Rattle.removals.specs.declared.site.Counts.{Counts}
+use Rattle.records.specs.declared.counts.Counts.{Counts}
 use Rattle.removals.specs.declared.open.Hole.{Hole}
-use Rattle.removals.specs.declared.remove.Removed.{Removed}
-use Rattle.removals.specs.declared.remove.Removed.TheVariants.{Gone, NoEars}
-use Rattle.removals.specs.declared.all.Removals.{Removals}
-use Rattle.removals.specs.declared.all.Removals.TheVariants.{Left, Stuck}
+use Rattle.removals.specs.declared.all.NoEarAt.{NoEarAt}
 use Rattle.removals.specs.Site.{mesh_at, standing, Stands}
 
 -- the hole that the n points at q make: r says how many points it has, and with one fewer zeros come in at the end. `count` and `is` fix all
@@ -53,9 +50,9 @@ pub record OpenedTo (w u : List ℕ) (s : Site) (n : Counts) (rem : ℕ) (r : Ho
 -- ---- the hole is filled
 
 -- what the removal answers: how many polygons there are then, or that there was no ear to cut
-unfoldable pub removed_to : Rules.Removed → Removed
-removed_to (Rules.gone m r) = Gone (length m.polygons)
-removed_to Rules.no_ears = NoEars
+unfoldable pub removed_to : Rules.Removed → Option ℕ
+removed_to (Rules.gone m r) = Some (length m.polygons)
+removed_to Rules.no_ears = None
 
 -- and the mesh that stands there then: none if there was no ear to cut
 unfoldable pub mesh_after : Rules.Removed → Mesh
@@ -68,10 +65,14 @@ mesh_after Rules.no_ears = no_mesh
 abbrev pub counts_of : Mesh → Counts
 counts_of m = record { vertices = length m.vertices; polygons = length m.polygons }
 
+-- the hole of vertex i has no ear to cut
+abbrev pub no_ear_at : ℕ → NoEarAt
+no_ear_at i = record { vertex = i }
+
 -- what trying all answers: how many vertices and polygons are left, or the vertex whose hole has no ear
-unfoldable pub tried_to : Rules.Removals → Removals
-tried_to (Rules.removed m log) = Left (counts_of m)
-tried_to (Rules.stuck_at i) = Stuck i
+unfoldable pub tried_to : Rules.Removals → Result Counts NoEarAt
+tried_to (Rules.removed m log) = Ok (counts_of m)
+tried_to (Rules.stuck_at i) = Err (no_ear_at i)
 
 -- and the mesh that stands there then: none if a hole has no ear
 unfoldable pub mesh_left : Rules.Removals → Mesh

@@ -9,7 +9,7 @@ use Rattle.laws.specs.Removal.{Sound}
 use Rattle.records.specs.Layout.{vertex_size, vertices_at, marks_at, vertex_records, polygon_size, most_corners, polygons_at, polygon_records}
 use Rattle.trails.specs.Trails.{walk_room}
 use Rattle.removals.specs.declared.site.Site.{Site}
-use Rattle.removals.specs.declared.site.Counts.{Counts}
+use Rattle.records.specs.declared.counts.Counts.{Counts}
 
 -- the mesh that stands there
 abbrev pub mesh_at : List ℕ → Site → Counts → Mesh

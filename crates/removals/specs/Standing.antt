@@ -19,7 +19,7 @@ use Rattle.records.specs.Vertices.{length_vertex_records}
 use Rattle.records.specs.Polygons.{length_records}
 use Rattle.holes.specs.Small.{small_good}
 use Rattle.removals.specs.declared.site.Site.{Site}
-use Rattle.removals.specs.declared.site.Counts.{Counts}
+use Rattle.records.specs.declared.counts.Counts.{Counts}
 use Rattle.removals.specs.Site.{mesh_at, scratch_room, standing, mesh_in, Fits, Stands}
 use Rattle.removals.specs.Removing.{counts_of}
 use Rattle.removals.specs.Stages.{Stage, stage_fits, vertices_read, marks_read, polygons_read}

@@ -3,9 +3,10 @@ ghost use Rattle.records.specs.Layout.{most_corners};
 ghost use Rattle.removals.specs.Removing.{RemoveReady, OpenedTo};
 
 use crate::close::close_hole;
-use crate::site::{Counts, Site};
+use crate::site::Site;
 use holes::clear::clear_polygons;
 use holes::vertices::remove_record;
+use records::counts::Counts;
 use records::point::POINT_SIZE;
 use records::side::SIDE_SIZE;
 use trails::sides::collect_sides;

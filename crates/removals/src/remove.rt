@@ -1,5 +1,5 @@
 // A vertex is removed: the hole that it leaves is filled.
-ghost use Rattle.std.specs.Prelude.{◌≡◌, cond, ◌+◌, ◌-◌, ◌*◌, ◌≤◌, ltb, length, replicate};
+ghost use Rattle.std.specs.Prelude.{◌≡◌, ◌+◌, ◌-◌, ◌*◌, ◌≤◌, length, replicate};
 ghost use Rattle.mem.specs.Slice.{splice};
 ghost use Rattle.rules.specs.Removal.{remove_vertex};
 ghost use Rattle.records.specs.Layout.{vertex_size, polygon_size, point_size};
@@ -7,8 +7,9 @@ ghost use Rattle.removals.specs.Site.{mesh_at, mesh_in, Fits};
 ghost use Rattle.removals.specs.Removing.{RemoveReady, removed_to, mesh_after};
 
 use crate::open::open_hole;
-use crate::site::{Counts, Site};
-use holes::fill::{Filled, fill_hole};
+use crate::site::Site;
+use holes::fill::fill_hole;
+use records::counts::Counts;
 use records::point::POINT_SIZE;
 use records::polygon::POLYGON_SIZE;
 use records::vertex::VERTEX_SIZE;
@@ -16,20 +17,6 @@ use words::fill::fill;
 
 // How many words of scratch the walk has for each polygon that has room.
 const WALK_ROOM: usize = 13;
-
-// The vertex has gone, and there are so many polygons; or the hole has no ear to cut.
-#[derive(Clone, Copy)]
-pub enum Removed {
-    Gone(usize),
-    NoEars,
-}
-
-// The greater of the two.
-fn greater(a: usize, b: usize) -> usize
-    ensures { result ≡ cond (ltb a b) b a }
-{
-    if a < b { b } else { a }
-}
 
 // Zeros in the place of the polygons from `from` up to `to`, and of the hole's points.
 fn tidy_up(work: &mut [u32], s: Site, from: usize, to: usize, points: usize)
@@ -55,8 +42,9 @@ fn wipe_mesh(work: &mut [u32], s: Site, points: usize)
     fill(work, s.scratch, points * POINT_SIZE, 0);
 }
 
-// The vertex goes from the mesh at s, and the hole is filled. With no ear to cut there is no mesh.
-pub fn remove_vertex(work: &mut [u32], s: Site, n: Counts, rem: u32, nvp: usize) -> Removed
+// The vertex goes from the mesh at s, and the hole is filled. The result says how many polygons there are then; with no ear to
+// cut there is no mesh.
+pub fn remove_vertex(work: &mut [u32], s: Site, n: Counts, rem: u32, nvp: usize) -> Option<usize>
     requires { RemoveReady work.old s n nvp rem }
     ensures answer { result ≡ removed_to (remove_vertex nvp rem (mesh_at work.old s n)) }
     ensures words { work.new ≡ mesh_in work.old s (mesh_after (remove_vertex nvp rem (mesh_at work.old s n))) }
@@ -64,7 +52,7 @@ pub fn remove_vertex(work: &mut [u32], s: Site, n: Counts, rem: u32, nvp: usize)
     let h = open_hole(work, s, n, rem);
     let at = s.polygons + h.left * POLYGON_SIZE;
     let places = s.scratch + s.t * WALK_ROOM;
-    let far = greater(n.polygons, h.left + (h.points - 2));
+    let far = n.polygons.max(h.left + (h.points - 2));
     match fill_hole(
         work,
         s.vertices,
@@ -75,14 +63,14 @@ pub fn remove_vertex(work: &mut [u32], s: Site, n: Counts, rem: u32, nvp: usize)
         places,
         nvp,
     ) {
-        Filled::Polygons(k) => {
+        Some(k) => {
             let np = h.left + k;
             tidy_up(work, s, np, far, h.points);
-            return Removed::Gone(np);
+            Some(np)
         }
-        Filled::NoEars => {
+        None => {
             wipe_mesh(work, s, h.points);
-            return Removed::NoEars;
+            None
         }
     }
 }

@@ -8,10 +8,3 @@ pub struct Site {
     pub t: usize,
     pub scratch: usize,
 }
-
-// How many vertices and polygons stand there.
-#[derive(Clone, Copy)]
-pub struct Counts {
-    pub vertices: usize,
-    pub polygons: usize,
-}

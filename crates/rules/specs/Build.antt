@@ -1,5 +1,5 @@
 -- The build: the checks, the contours one after the other, the removals, the links; what it comes to, and its reply. Definitions only.
-use Rattle.std.specs.Prelude.{true, false, List, [], ◌++◌, map, ℕ, zero, suc, ◌+◌, ltb, length, get_or}
+use Rattle.std.specs.Prelude.{true, false, List, [], ◌++◌, map, ℕ, zero, suc, ◌+◌, ltb, length, get_or, Ok, Err}
 use Rattle.rules.specs.Plane.{on_plane}
 use Rattle.rules.specs.Ears.{done, stuck, triangulate}
 use Rattle.rules.specs.Weld.{weld_all}
@@ -9,14 +9,13 @@ use Rattle.rules.specs.Removal.{Removal, Removals, removed, stuck_at, remove_all
 use Rattle.rules.specs.Links.{links_of}
 use Rattle.rules.specs.Portals.{portals}
 use Rattle.rules.specs.Job.{Job, contour_vertices, contour_flags}
+use Rattle.rules.specs.Replies.{Reply, as_built}
 use Rattle.rules.specs.Checks.{Lent, lengths_of, Checked, passed, refusal, check}
 use Rattle.rules.specs.declared.Vertex.{Vertex}
 use Rattle.rules.specs.declared.Header.{Header}
 use Rattle.rules.specs.declared.Answer.{Answer}
 use Rattle.rules.specs.declared.Refusal.{Refusal}
 use Rattle.rules.specs.declared.Refusal.TheVariants.{NoEarInContour, NoEarInHole}
-use Rattle.rules.specs.declared.Reply.{Reply}
-use Rattle.rules.specs.declared.Reply.TheVariants.{Built, Refused}
 
 -- ---- the contours
 
@@ -90,8 +89,8 @@ outcome j b = after_check j (check j (lengths_of b))
 
 -- 0: "polygon count (and, only here, a third number: the vertex count ..)"
 unfoldable pub reply_of : Outcome → Reply
-reply_of (refused r) = Refused r
-reply_of (built m ls log) = Built (length m.polygons) (length m.vertices)
+reply_of (refused r) = Err r
+reply_of (built m ls log) = Ok (as_built (length m.polygons) (length m.vertices))
 
 -- "The header comes back bit for bit, also with a refusal.": it is beside the reply, and the build never looks at it
 unfoldable pub answer : Header → Job → Lent → Answer

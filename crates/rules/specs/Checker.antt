@@ -7,14 +7,13 @@ use Rattle.rules.specs.Links.{none}
 use Rattle.rules.specs.Portals.{portal_of}
 use Rattle.rules.specs.Job.{Job}
 use Rattle.rules.specs.Checks.{Lent, vertex_stride}
+use Rattle.rules.specs.Replies.{Reply, as_built}
 use Rattle.rules.specs.Build.{built, outcome, reply_of}
 use Rattle.rules.specs.Exits.{decoded, exits}
 use Rattle.rules.specs.Areas.{stored_area}
 use Rattle.rules.specs.Handed.{Handed, polygon_count, mesh_in, corners_at, link_at, all_of, first_fault, soundness, NamedBack, Consistent}
 use Rattle.rules.specs.Handed.{fault_number, fault_second}
 use Rattle.rules.specs.declared.Vertex.{Vertex}
-use Rattle.rules.specs.declared.Reply.{Reply}
-use Rattle.rules.specs.declared.Reply.TheVariants.{Built}
 use Rattle.rules.specs.declared.Verdict.{Verdict}
 use Rattle.rules.specs.declared.Verdict.TheVariants.{Accepted, Unsound, BadPortals, BadArea}
 
@@ -122,7 +121,7 @@ own_claim j b n k = record { mesh = handed_on j.nvp b n k; w = j.w; h = j.h; bor
 
 -- what a job's build answers, and what it leaves in the buffers: if it is a mesh, that mesh is accepted. An `ensures` of `into_polygon_mesh`
 abbrev pub OwnAccepted : Job → Reply → Lent → Type 0
-OwnAccepted j r b = (n k : ℕ) → r ≡ Built n k → verdict (own_claim j b n k) ≡ Accepted
+OwnAccepted j r b = (n k : ℕ) → r ≡ Ok (as_built n k) → verdict (own_claim j b n k) ≡ Accepted
 
 -- .. of every job, in any buffers
 abbrev pub EachAccepted : Type 0

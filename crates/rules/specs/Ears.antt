@@ -1,5 +1,5 @@
 -- R2: ears are cut off a contour or a hole, a list of points. Definitions only.
-use Rattle.std.specs.Prelude.{Bool, true, false, not, ◌&&◌, cond, List, [], ◌∷◌, ◌++◌, ℕ, zero, suc, ◌+◌, ◌-◌, ◌%◌, ◌^◌, leb, ltb, length, get_or, set}
+use Rattle.std.specs.Prelude.{Bool, true, ◌&&◌, cond, List, [], ◌∷◌, ◌++◌, ℕ, zero, suc, ◌+◌, ◌-◌, ◌%◌, ◌^◌, leb, ltb, length, get_or, set, Option, Some, None}
 use Rattle.mem.specs.Loops.{each}
 use Rattle.mem.specs.Tab.{tab}
 use Rattle.rules.specs.Lists.{next, prev, without}
@@ -64,22 +64,23 @@ key_end Loose n i = next (next (next i n) n) n
 unfoldable pub key_from : Kind → List Point → List ℕ → ℕ → ℕ
 key_from kind ps ws i = key_of (point_at ps ws i) (point_at ps ws (key_end kind (length ws) i))
 
-abbrev pub no_ear : Ear
-no_ear = record { any = false; key = 0; at = 0 }
+-- "with the least key .., the lowest i on ties": i with key k, where it may be cut, against the best so far, if there is one, whose i is lower
+unfoldable pub beats : ℕ → Option Ear → Bool
+beats k (Some e) = ltb k e.key
+beats k None = true
 
--- "with the least key .., the lowest i on ties": i with key k, where it may be cut, against the best so far, whose i is lower
-unfoldable pub better : Bool → ℕ → ℕ → Ear → Ear
-better ok k i e = cond (ok && not (e.any && leb e.key k)) (record { any = true; key = k; at = i }) e
+unfoldable pub better : Bool → ℕ → ℕ → Option Ear → Option Ear
+better ok k i e = cond (ok && beats k e) (Some (record { key = k; at = i })) e
 
-unfoldable pub try_ear : Kind → List Point → List ℕ → ℕ → Ear → Ear
+unfoldable pub try_ear : Kind → List Point → List ℕ → ℕ → Option Ear → Option Ear
 try_ear kind ps ws i e = better (is_cuttable kind ps ws i) (key_from kind ps ws i) i e
 
-unfoldable pub least_ear : Kind → List Point → List ℕ → Ear
-least_ear kind ps ws = each (try_ear kind ps ws) 0 (length ws) no_ear
+unfoldable pub least_ear : Kind → List Point → List ℕ → Option Ear
+least_ear kind ps ws = each (try_ear kind ps ws) 0 (length ws) None
 
 -- "the marked vertex with the least key is cut .. If none is marked, the loose diagonals are tried"
-unfoldable pub find_ear : List Point → List ℕ → Ear
-find_ear ps ws = let e = least_ear Strict ps ws in elim e.any [ true ↦ e | false ↦ least_ear Loose ps ws ]
+unfoldable pub find_ear : List Point → List ℕ → Option Ear
+find_ear ps ws = elim (least_ear Strict ps ws) [ Some e ↦ Some e | None ↦ least_ear Loose ps ws ]
 
 -- ---- the cut
 
@@ -115,10 +116,9 @@ pub data Ears : Type 0 where
 unfoldable pub cut_all : ℕ → List Point → List ℕ → List (List ℕ) → Ears
 cut_all zero ps ws out = done (out ++ (triangle_at ws 0 ∷ []))
 cut_all (suc f) ps ws out =
-    let e = find_ear ps ws in
-    elim e.any [
-      | true ↦ cut_all f ps (cut_ear ps e.at ws) (out ++ (triangle_at ws e.at ∷ []))
-      | false ↦ stuck (length out)
+    elim (find_ear ps ws) [
+      | Some e ↦ cut_all f ps (cut_ear ps e.at ws) (out ++ (triangle_at ws e.at ∷ []))
+      | None ↦ stuck (length out)
     ]
 
 -- Rust's `triangulate`, of three or more points (contours of fewer are skipped, and a hole has at least three)

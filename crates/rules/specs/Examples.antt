@@ -12,7 +12,7 @@ use Rattle.rules.specs.Mesh.{Polygon}
 use Rattle.rules.specs.Removal.{Removal}
 use Rattle.rules.specs.Links.{none}
 use Rattle.rules.specs.Job.{Job}
-use Rattle.rules.specs.Replies.{number_of_reply, second_of, third_of}
+use Rattle.rules.specs.Replies.{Reply, number_of_reply, second_of, third_of}
 use Rattle.rules.specs.Checks.{Lent, least_lengths, Checked, passed, refusal, check_v}
 use Rattle.rules.specs.Build.{Outcome, refused, built, weld_height, outcome, reply_of}
 use Rattle.rules.specs.Exits.{exits}
@@ -25,7 +25,6 @@ use Rattle.rules.specs.Lines.{ascii}
 use Rattle.rules.specs.Sheet.{text_of}
 use Rattle.rules.specs.declared.Point.{Point}
 use Rattle.rules.specs.declared.Vertex.{Vertex}
-use Rattle.rules.specs.declared.Reply.{Reply}
 use Rattle.rules.specs.declared.Refusal.TheVariants.{TooManyVertices}
 use Rattle.rules.specs.declared.CellSize.{CellSize}
 use Rattle.rules.specs.declared.CellSize.TheVariants.{Millimetres, Inches}

@@ -1,6 +1,6 @@
 -- The rules' loops count down a number, their fuel, since a definition has to end. Here is said of each, with the fuel that it is given, that it does what
 -- its sentence says, turn by turn, and that no turn is missing at its end. No fuel stands in these lines. Statements; the proofs are in crate `laws`.
-use Rattle.std.specs.Prelude.{◌≡◌, true, false, List, [], ◌∷◌, ◌++◌, map, ℕ, ◌+◌, ◌-◌, ◌≤◌, ◌<◌, length, get_or}
+use Rattle.std.specs.Prelude.{◌≡◌, true, false, List, [], ◌∷◌, ◌++◌, map, ℕ, ◌+◌, ◌-◌, ◌≤◌, ◌<◌, length, get_or, Some, None}
 use Rattle.mem.specs.Loops.{times}
 use Rattle.rules.specs.Plane.{on_plane}
 use Rattle.rules.specs.Ears.{Ears, done, stuck, indices, mark_all, find_ear, cut_ear, triangle_at, cut_all, triangulate}
@@ -10,6 +10,7 @@ use Rattle.rules.specs.Removal.{TakingOut, take_one, taken_out, Walk, walk_one, 
 use Rattle.rules.specs.Job.{Job, contour_vertices, contour_flags}
 use Rattle.rules.specs.Build.{Contours, added, no_ear_in, weld_height, add_contour, add_from, add_all}
 use Rattle.rules.specs.declared.Point.{Point}
+use Rattle.rules.specs.declared.Ear.{Ear}
 use Rattle.rules.specs.declared.Side.{Side}
 use Rattle.rules.specs.declared.Vertex.{Vertex}
 
@@ -19,9 +20,8 @@ abbrev pub cutting : List Point → List ℕ → List (List ℕ) → Ears
 cutting ps ws out = cut_all (length ws - 3) ps ws out
 
 pub record Cutting (ps : List Point) (ws : List ℕ) (out : List (List ℕ)) : Type 0 where
-  pub cut : 3 < length ws → (find_ear ps ws).any ≡ true
-      → cutting ps ws out ≡ cutting ps (cut_ear ps (find_ear ps ws).at ws) (out ++ (triangle_at ws (find_ear ps ws).at ∷ []))
-  pub none : 3 < length ws → (find_ear ps ws).any ≡ false → cutting ps ws out ≡ stuck (length out)
+  pub cut : (e : Ear) → 3 < length ws → find_ear ps ws ≡ Some e → cutting ps ws out ≡ cutting ps (cut_ear ps e.at ws) (out ++ (triangle_at ws e.at ∷ []))
+  pub none : 3 < length ws → find_ear ps ws ≡ None → cutting ps ws out ≡ stuck (length out)
   pub last : length ws ≤ 3 → cutting ps ws out ≡ done (out ++ (triangle_at ws 0 ∷ []))
 
 -- what the cutting starts with

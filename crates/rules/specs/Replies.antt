@@ -1,9 +1,8 @@
 -- The replies: their numbers, their second and third numbers, and which write nothing. Definitions only.
-use Rattle.std.specs.Prelude.{Bool, true, false, ℕ}
+use Rattle.std.specs.Prelude.{Bool, true, false, ℕ, Result, Ok, Err}
 use Rattle.rules.specs.declared.Refusal.{Refusal}
 use Rattle.rules.specs.declared.Refusal.TheVariants.{BadCornerLimit, CountsDisagree, HighCoordinate, BadFlag, TooManyVertices, ShortBuffer, NoEarInContour, NoEarInHole}
-use Rattle.rules.specs.declared.Reply.{Reply}
-use Rattle.rules.specs.declared.Reply.TheVariants.{Built, Refused}
+use Rattle.rules.specs.declared.Built.{Built}
 
 -- the table's "No."
 unfoldable pub refusal_number : Refusal → ℕ
@@ -38,15 +37,23 @@ writes_nothing (ShortBuffer k) = true
 writes_nothing (NoEarInContour c) = false
 writes_nothing (NoEarInHole i) = false
 
+-- reply 0 with its counts, or a refusal
+abbrev pub Reply : Type 0
+Reply = Result Built Refusal
+
+-- the counts of n polygons and k vertices
+abbrev pub as_built : ℕ → ℕ → Built
+as_built n k = record { polygons = n; vertices = k }
+
 -- a reply's three numbers: 0 with the "polygon count (and, only here, a third number: the vertex count; otherwise 0)"
 unfoldable pub number_of_reply : Reply → ℕ
-number_of_reply (Built n k) = 0
-number_of_reply (Refused r) = refusal_number r
+number_of_reply (Ok b) = 0
+number_of_reply (Err r) = refusal_number r
 
 unfoldable pub second_of : Reply → ℕ
-second_of (Built n k) = n
-second_of (Refused r) = refusal_second r
+second_of (Ok b) = b.polygons
+second_of (Err r) = refusal_second r
 
 unfoldable pub third_of : Reply → ℕ
-third_of (Built n k) = k
-third_of (Refused r) = 0
+third_of (Ok b) = b.vertices
+third_of (Err r) = 0

@@ -26,10 +26,9 @@ pub enum Kind {
     Loose,
 }
 
-// R2: the best ear so far, `at` being the i of i, i+1, i+2; none as long as `any` is false.
+// R2: an ear with its key, `at` being the i of i, i+1, i+2.
 #[derive(Clone, Copy)]
 pub struct Ear {
-    pub any: bool,
     pub key: u32,
     pub at: usize,
 }
@@ -106,7 +105,7 @@ pub struct Header {
 
 // Replies 1 to 8, in the order of their numbers. What each carries is its second number; reply 2's is 0. 64 bits hold the
 // number of any vertex of any slice, and any V.
-#[derive(Clone, Copy)]
+#[derive(Clone, Copy, Debug, PartialEq, Eq)]
 pub enum Refusal {
     BadCornerLimit(u64),
     CountsDisagree,
@@ -118,12 +117,15 @@ pub enum Refusal {
     NoEarInHole(u64),
 }
 
-// Reply 0, with its second and its third number, or one of the others.
-#[derive(Clone, Copy)]
-pub enum Reply {
-    Built(u64, u64),
-    Refused(Refusal),
+// Reply 0's second and its third number: how many polygons and vertices the mesh has.
+#[derive(Clone, Copy, Debug, PartialEq, Eq)]
+pub struct Built {
+    pub polygons: u64,
+    pub vertices: u64,
 }
+
+// Reply 0, or one of the others.
+pub type Reply = Result<Built, Refusal>;
 
 // What a build answers: its reply, and the header as it was given.
 #[derive(Clone, Copy)]

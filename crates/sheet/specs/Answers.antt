@@ -1,6 +1,6 @@
 -- What the build's answer and its buffers at exit say of the mesh: the stored mesh is the rules' mesh, and it is ready to be printed. Assumes nothing.
 -- Key: `refused_text_lem`, `built_text_lem`: what is printed, by the build's reply; `text_room`: there is room for it.
-use Rattle.std.specs.Prelude.{◌≡◌, refl, List, [], ◌∷◌, ◌++◌, ℕ, ◌+◌, ◌*◌, ◌≤◌, ◌<◌, length}
+use Rattle.std.specs.Prelude.{◌≡◌, refl, List, [], ◌∷◌, ◌++◌, ℕ, ◌+◌, ◌*◌, ◌≤◌, ◌<◌, length, Ok, Err}
 use Rattle.std.proofs.Math.Path.{sym, ap}
 use Rattle.std.proofs.Common.{◌∙◌, append_assoc, mul-le-mul_right, mul-le-mul_left}
 use Rattle.std.proofs.Math.Nat.{le_trans}
@@ -14,14 +14,13 @@ use Rattle.rules.specs.Mesh.{Polygon, polygon_at, no_polygon, Mesh}
 use Rattle.rules.specs.Lines.{number_line}
 use Rattle.rules.specs.Job.{count_all}
 use Rattle.rules.specs.Checks.{Lent, vertex_stride, lengths_of}
-use Rattle.rules.specs.Replies.{refusal_number, refusal_second}
+use Rattle.rules.specs.Replies.{as_built, refusal_number, refusal_second}
 use Rattle.rules.specs.Build.{outcome, reply_of, answer}
 use Rattle.rules.specs.Exits.{exits, Stored, vertex_of, up_to_none, stored_polygon, stored_links, decoded}
 use Rattle.rules.specs.Sheet.{declared_most, Sheet, cell_name, outcome_of, refused_text, unit_line, mesh_text, built_text}
 use Rattle.rules.specs.declared.Header.{Header}
 use Rattle.rules.specs.declared.Answer.{Answer}
 use Rattle.rules.specs.declared.Refusal.{Refusal}
-use Rattle.rules.specs.declared.Reply.TheVariants.{Built, Refused}
 use Rattle.laws.proofs.Lists.{all_at}
 use Rattle.laws.specs.Removal.{Sound}
 use Rattle.laws.proofs.Exits.{reads_back}
@@ -109,7 +108,7 @@ module _ {s : Sheet} {x : Header} {b : Lent} {q : Answer} {u : Lent} (c : Called
   pub text_room : length (built_text s (outcome_of s.job)) ≤ out_most
   text_room = rw came_to (built_room s b (outcome s.job b) refl c.few)
 
-  pub refused_text_lem : (r : Refusal) → q.reply ≡ Refused r → built_text s (outcome_of s.job) ≡ refused_text (refusal_number r) (refusal_second r)
+  pub refused_text_lem : (r : Refusal) → q.reply ≡ Err r → built_text s (outcome_of s.job) ≡ refused_text (refusal_number r) (refusal_second r)
   unfolding built_text
   refused_text_lem r e = ap (built_text s) (came_to ∙ was_refused (outcome s.job b) r (sym e ∙ replied))
 
@@ -142,5 +141,5 @@ module _ {s : Sheet} {x : Header} {b : Lent} {q : Answer} {u : Lent} (c : Called
             p.nvp_high nf kf lp lv;
       }
 
-  pub built_text_lem : (n k : ℕ) → q.reply ≡ Built n k → BuiltText n k
+  pub built_text_lem : (n k : ℕ) → q.reply ≡ Ok (as_built n k) → BuiltText n k
   built_text_lem n k e = from_mesh n k (was_built (outcome s.job b) n k (sym e ∙ replied))

@@ -27,15 +27,15 @@ fn put_reply(
     ensures { Printed (reply_text x reply vertices.now polygons.now neighbours.now regions.now codes.now) out.old out.new 0 result }
 {
     match reply {
-        Reply::Refused(r) => put_refused(out, refusal_number(r), refusal_second(r)),
-        Reply::Built(n, k) => {
+        Err(r) => put_refused(out, refusal_number(r), refusal_second(r)),
+        Ok(built) => {
             let at = put_top(out, x.inches, x.size, x.height);
             put_mesh(
                 out,
                 at,
                 x.nvp as usize,
-                n as usize,
-                k as usize,
+                built.polygons as usize,
+                built.vertices as usize,
                 vertices,
                 polygons,
                 neighbours,
@@ -85,10 +85,9 @@ pub fn answer_job(
         &mut flags,
         &mut work,
     );
-    let reply = answer.reply;
     put_reply(
         x,
-        reply,
+        answer.reply,
         &vertices,
         &polygons,
         &neighbours,

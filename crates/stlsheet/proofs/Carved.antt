@@ -1,6 +1,7 @@
 -- What is written for a job, by the build's reply: a refusal's line, or the file of the mesh that stands in the buffers, which is sound and has room.
 -- Assumes nothing.
 -- Key: `refused_is`, `built_is`, `built_stands`: what stands for a reply; `reply_file_lem`, `reply_ready`: a job's reply; `file_room`: there is room for it.
+use Rattle.std.specs.Prelude.{Ok, Err}
 use mathlib.Core.Path.{◌≡◌, refl, sym, ap, subst, ◌∙◌}
 use mathlib.Core.List.{List}
 use Prim.Native.Nat.{ℕ, ◌-◌, ◌*◌, ◌≤◌}
@@ -9,7 +10,7 @@ use native.Mathlib.Omega.{arith}
 use lib.ListN.{length}
 use Rattle.rules.specs.Mesh.{polygon_at}
 use Rattle.rules.specs.Checks.{Lent}
-use Rattle.rules.specs.Replies.{refusal_number, refusal_second}
+use Rattle.rules.specs.Replies.{Reply, as_built, refusal_number, refusal_second}
 use Rattle.rules.specs.Build.{outcome}
 use Rattle.rules.specs.Exits.{exits}
 use Rattle.rules.specs.Handed.{Handed}
@@ -21,8 +22,6 @@ use Rattle.rules.specs.StlText.{scale_of, carved_text}
 use Rattle.rules.specs.declared.Header.{Header}
 use Rattle.rules.specs.declared.Answer.{Answer}
 use Rattle.rules.specs.declared.Refusal.{Refusal}
-use Rattle.rules.specs.declared.Reply.{Reply}
-use Rattle.rules.specs.declared.Reply.TheVariants.{Built, Refused}
 use Rattle.laws.proofs.Build.{bounded}
 use Rattle.laws.proofs.Carved.{built_is_carved}
 use Rattle.laws.proofs.Reached.{built_passed}
@@ -45,26 +44,26 @@ same_handed nvp p q r = rw (p, q, r) refl
 -- ---- a reply, with the buffers that hold the mesh
 
 module _ (x : Heading) (reply : Reply) (vs ps ls : List ℕ) where
-  pub refused_is : (r : Refusal) (a b : ℕ) → reply ≡ Refused r → a ≡ refusal_number r → b ≡ refusal_second r → refused_text a b ≡ reply_file x reply vs ps ls
+  pub refused_is : (r : Refusal) (a b : ℕ) → reply ≡ Err r → a ≡ refusal_number r → b ≡ refusal_second r → refused_text a b ≡ reply_file x reply vs ps ls
   unfolding reply_file
   refused_is r a b e p q = rw (e, p, q) refl
 
-  pub built_is : (n k room : ℕ) → reply ≡ Built n k → room ≡ out_most → carved_in x n k vs ps ls room ≡ reply_file x reply vs ps ls
+  pub built_is : (n k room : ℕ) → reply ≡ Ok (as_built n k) → room ≡ out_most → carved_in x n k vs ps ls room ≡ reply_file x reply vs ps ls
   unfolding reply_file
   built_is n k room e r = rw (e, r) refl
 
-  pub built_stands : {out : List ℕ} (n k : ℕ) → reply ≡ Built n k → ReplyReady x reply vs ps ls out → CarveReady x n k vs ps ls out
+  pub built_stands : {out : List ℕ} (n k : ℕ) → reply ≡ Ok (as_built n k) → ReplyReady x reply vs ps ls out → CarveReady x n k vs ps ls out
   unfolding StandsFor
   built_stands {out} n k e ready = subst (λ (y : Reply). StandsFor x y vs ps ls out) e ready.stands
 
 -- ---- a call of the build
 
 module _ {s : Sheet} {h : Header} {b : Lent} {q : Answer} {u : Lent} (c : Called s h b q u) where
-  refused_file : (r : Refusal) → q.reply ≡ Refused r → carved_text s (outcome_of s.job) ≡ refused_text (refusal_number r) (refusal_second r)
+  refused_file : (r : Refusal) → q.reply ≡ Err r → carved_text s (outcome_of s.job) ≡ refused_text (refusal_number r) (refusal_second r)
   unfolding carved_text
   refused_file r e = ap (carved_text s) (came_to c ∙ was_refused (outcome s.job b) r (sym e ∙ replied c))
 
-  module _ (n k : ℕ) (e : q.reply ≡ Built n k) where
+  module _ (n k : ℕ) (e : q.reply ≡ Ok (as_built n k)) where
     mesh_built : WasBuilt (outcome s.job b) n k
     mesh_built = was_built (outcome s.job b) n k (sym e ∙ replied c)
 
@@ -104,8 +103,8 @@ module _ {s : Sheet} {h : Header} {b : Lent} {q : Answer} {u : Lent} (c : Called
 module _ (x : Heading) (ls rs cs ns : List ℕ) {h : Header} {b : Lent} {q : Answer} {u : Lent} (c : Called (with_lists (sheet_of x) ls rs cs ns) h b q u) where
   file_is : (r : Reply) → q.reply ≡ r → job_file x ls rs cs ns ≡ reply_file x r u.vertices u.polygons u.neighbours
   unfolding job_file reply_file carved_in handed_on with_lists sheet_of
-  file_is (Refused r) e = refused_file c r e
-  file_is (Built n k) e = built_file c n k e
+  file_is (Err r) e = refused_file c r e
+  file_is (Ok b) e = built_file c b.polygons b.vertices e
 
   pub reply_file_lem : job_file x ls rs cs ns ≡ reply_file x q.reply u.vertices u.polygons u.neighbours
   reply_file_lem = file_is q.reply refl
@@ -114,10 +113,10 @@ module _ (x : Heading) (ls rs cs ns : List ℕ) {h : Header} {b : Lent} {q : Ans
   module _ (vertices : length u.vertices ≡ 288) (polygons : length u.polygons ≡ 1152) (links : length u.neighbours ≡ 1152) where
     stands_for : (out : List ℕ) → length out ≡ out_most → (r : Reply) → q.reply ≡ r → StandsFor x r u.vertices u.polygons u.neighbours out
     unfolding StandsFor with_lists sheet_of
-    stands_for out room (Refused r) e = tt
-    stands_for out room (Built n k) e =
-        let t = built_text_lem c n k e in
-        let w : n * x.nvp ≤ 1152 = le_trans (mul-le-mul_right x.nvp t.polygons) (mul-le-mul_left 96 t.most) in
+    stands_for out room (Err r) e = tt
+    stands_for out room (Ok b) e =
+        let t = built_text_lem c b.polygons b.vertices e in
+        let w : b.polygons * x.nvp ≤ 1152 = le_trans (mul-le-mul_right x.nvp t.polygons) (mul-le-mul_left 96 t.most) in
         record { vertices = omega (arith, t.vertices); polygons = rw polygons w; links = rw links w; room = room }
 
     pub reply_ready : (out : List ℕ) → length out ≡ out_most → ReplyReady x q.reply u.vertices u.polygons u.neighbours out
@@ -125,5 +124,5 @@ module _ (x : Heading) (ls rs cs ns : List ℕ) {h : Header} {b : Lent} {q : Ans
 
 pub file_room : (x : Heading) (r : Reply) (vs ps ls : List ℕ) → length (reply_file x r vs ps ls) ≤ out_most
 unfolding reply_file carved_in
-file_room x (Refused r) vs ps ls = refused_short (refusal_number r) (refusal_second r)
-file_room x (Built n k) vs ps ls = text_short _ _ out_most refused_short
+file_room x (Err r) vs ps ls = refused_short (refusal_number r) (refusal_second r)
+file_room x (Ok b) vs ps ls = text_short _ _ out_most refused_short

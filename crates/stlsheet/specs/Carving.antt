@@ -1,15 +1,13 @@
 -- What is written for a stored mesh, for a reply of the build and for a job; and what that asks for. Definitions only.
-use Rattle.std.specs.Prelude.{◌≡◌, List, ℕ, ◌*◌, ◌≤◌, length, take}
+use Rattle.std.specs.Prelude.{◌≡◌, List, ℕ, ◌*◌, ◌≤◌, length, take, Ok, Err}
 use Prim.{Unit}
 use Rattle.rules.specs.Checks.{vertex_stride}
-use Rattle.rules.specs.Replies.{refusal_number, refusal_second}
+use Rattle.rules.specs.Replies.{Reply, refusal_number, refusal_second}
 use Rattle.rules.specs.Job.{sum_over}
 use Rattle.rules.specs.Sheet.{declared_most, outcome_of, refused_text}
 use Rattle.rules.specs.Handed.{fault_number, fault_second}
 use Rattle.rules.specs.StlCall.{mesh_file, stl_reply}
 use Rattle.rules.specs.StlText.{scale_of, carved_text}
-use Rattle.rules.specs.declared.Reply.{Reply}
-use Rattle.rules.specs.declared.Reply.TheVariants.{Built, Refused}
 use Rattle.rules.specs.declared.StlReply.{StlReply}
 use Rattle.rules.specs.declared.StlReply.TheVariants.{Written, BadMesh, BadScale, ShortFile}
 use Rattle.checker.specs.Asked.{handed_in}
@@ -39,12 +37,12 @@ pub record CarveReady (x : Heading) (n k : ℕ) (vs ps ls out : List ℕ) : Type
 
 -- for a reply of the build
 unfoldable pub reply_file : Heading → Reply → List ℕ → List ℕ → List ℕ → List ℕ
-reply_file x (Refused r) vs ps ls = refused_text (refusal_number r) (refusal_second r)
-reply_file x (Built n k) vs ps ls = carved_in x n k vs ps ls out_most
+reply_file x (Err r) vs ps ls = refused_text (refusal_number r) (refusal_second r)
+reply_file x (Ok b) vs ps ls = carved_in x b.polygons b.vertices vs ps ls out_most
 
 unfoldable pub StandsFor : Heading → Reply → List ℕ → List ℕ → List ℕ → List ℕ → Type 0
-StandsFor x (Refused r) vs ps ls out = Unit {0}
-StandsFor x (Built n k) vs ps ls out = CarveReady x n k vs ps ls out
+StandsFor x (Err r) vs ps ls out = Unit {0}
+StandsFor x (Ok b) vs ps ls out = CarveReady x b.polygons b.vertices vs ps ls out
 
 pub record ReplyReady (x : Heading) (reply : Reply) (vs ps ls out : List ℕ) : Type 0 where
   pub stands : StandsFor x reply vs ps ls out

@@ -26,12 +26,16 @@ fn put_reply(
         out.old out.new 0 result }
 {
     match reply {
-        Reply::Refused(r) => put_refused(out, refusal_number(r), refusal_second(r)),
-        Reply::Built(n, k) => {
-            put_carved(
-                x, n as usize, k as usize, vertices, polygons, neighbours, out,
-            )
-        }
+        Err(r) => put_refused(out, refusal_number(r), refusal_second(r)),
+        Ok(built) => put_carved(
+            x,
+            built.polygons as usize,
+            built.vertices as usize,
+            vertices,
+            polygons,
+            neighbours,
+            out,
+        ),
     }
 }
 
@@ -75,6 +79,5 @@ pub fn carve_job(
         &mut flags,
         &mut work,
     );
-    let reply = answer.reply;
-    put_reply(x, reply, &vertices, &polygons, &neighbours, out)
+    put_reply(x, answer.reply, &vertices, &polygons, &neighbours, out)
 }

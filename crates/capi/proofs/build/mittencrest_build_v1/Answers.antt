@@ -1,9 +1,8 @@
 -- `capi::build::mittencrest_build_v1` meets its contract: it is the build's, with the header and the reply as numbers. Assumes nothing.
 use mathlib.Core.Path.{ap, ◌∙◌}
-use Rattle.rules.specs.Replies.{number_of_reply}
+use Rattle.rules.specs.Replies.{Reply, number_of_reply}
 use Rattle.rules.specs.Build.{answer}
 use Rattle.rules.specs.declared.Answer.{Answer}
-use Rattle.rules.specs.declared.Reply.{Reply}
 use Rattle.capi.specs.Numbers.{header_words, answer_words}
 use Rattle.capi.proofs.Written.{header_back}
 use Rattle.capi.proofs.build.mittencrest_build_v1.Goals as goal

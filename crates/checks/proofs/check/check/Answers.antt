@@ -1,204 +1,103 @@
 -- `checks::check::check` meets its contract: what is left to check is the answer as long as nothing has refused, and the first refusal is the answer then. What has
 -- passed keeps the sums, places and products of later checks in range. Assumes nothing.
 use mathlib.Core.Path.{◌≡◌, refl, ◌∙◌}
-use Prim.Native.Nat.{ℕ}
-use Rattle.rules.specs.Checks.{check_nvp, check_counts, check_v, check}
+use Rattle.std.proofs.lemmas.Result.{err_from_is_err_and}
 use Rattle.laws.specs.Checks.{Agreed}
-use Rattle.checks.specs.Answers.{job_of, verdict_of}
-use Rattle.checks.proofs.Order.{limit_low, counts_agreed, few, vertex_checks, room_check, Left-2, Left-3, Left-5, all_left, past, stop}
-use Rattle.checks.proofs.InHand.{numbers_fit, vertices_are, many_is, t_below, room_is}
+use Rattle.checks.specs.Answers.{job_of}
+use Rattle.checks.proofs.Order.{limit_low, counts_agreed, few, all_left, past, last, stop}
+use Rattle.checks.proofs.InHand.{numbers_fit, high_says, flags_say, many_is, t_below, room_is}
 use Rattle.checks.proofs.check.check.Goals as goal
 
-pub returns-in_default : goal.returns-in_default
-returns-in_default c w h border =
-    let limit-says : (w h border : ℕ) → c.check_nvp-limit.result ≡ verdict_of
-    (check_nvp ((job_of c.args.nvp w h border c.args.lengths.now c.args.regions.now c.args.codes.now c.args.numbers.now))) =
-    λ w h border. c.check_nvp-limit.ensures ((job_of c.args.nvp w h border c.args.lengths.now c.args.regions.now c.args.codes.now
-    c.args.numbers.now)) refl in
-    stop (all_left _ _) (limit-says w h border) c.in_default.is
+pub returns-in_err-check_nvp : goal.returns-in_err-check_nvp
+returns-in_err-check_nvp c w h border =
+    let a = c.args in let j = job_of a.nvp w h border a.lengths.now a.regions.now a.codes.now a.numbers.now in
+    let left-1 = all_left j a.have in
+    let p = err_from_is_err_and c.from_residual.result c.from_residual.ensures.1 in
+    rw (p.1, p.2) (stop left-1 (c.check_nvp.ensures j refl) c.in_err-check_nvp.was)
 
-pub returns-in_default-counts : goal.returns-in_default-counts
-returns-in_default-counts c w h border =
-    let limit-says : (w h border : ℕ) → c.check_nvp-limit.result ≡ verdict_of
-    (check_nvp ((job_of c.args.nvp w h border c.args.lengths.now c.args.regions.now c.args.codes.now c.args.numbers.now))) =
-    λ w h border. c.check_nvp-limit.ensures ((job_of c.args.nvp w h border c.args.lengths.now c.args.regions.now c.args.codes.now
-    c.args.numbers.now)) refl in
-    let left-2 : (w h border : ℕ) → Left-2 ((job_of c.args.nvp w h border c.args.lengths.now c.args.regions.now c.args.codes.now c.args.numbers.now))
-    ((c.args.have)) = λ w h border. record { same = past (all_left _ _) (limit-says w h border) c.in-Passed.is } in
-    let counts-say : (w h border : ℕ) → c.check_counts-counts.result ≡ verdict_of
-    (check_counts ((job_of c.args.nvp w h border c.args.lengths.now c.args.regions.now c.args.codes.now c.args.numbers.now))) =
-    λ w h border. c.check_counts-counts.ensures c.args.nvp w h border in
-    stop (left-2 w h border) (counts-say w h border) c.in_default-counts.is
+pub returns-in_err-check_counts : goal.returns-in_err-check_counts
+returns-in_err-check_counts c w h border =
+    let a = c.args in let j = job_of a.nvp w h border a.lengths.now a.regions.now a.codes.now a.numbers.now in
+    let left-1 = all_left j a.have in
+    let left-2 = past left-1 (c.check_nvp.ensures j refl) c.in_ok-check_nvp.was in
+    let p = err_from_is_err_and c.from_residual-in_err-check_counts.result c.from_residual-in_err-check_counts.ensures.1 in
+    rw (p.1, p.2) (stop left-2 (c.check_counts.ensures a.nvp w h border) c.in_err-check_counts.was)
 
 pub count_all-n-requires : goal.count_all-n-requires
 count_all-n-requires c =
-    let counts-say : (w h border : ℕ) → c.check_counts-counts.result ≡ verdict_of
-    (check_counts ((job_of c.args.nvp w h border c.args.lengths.now c.args.regions.now c.args.codes.now c.args.numbers.now))) =
-    λ w h border. c.check_counts-counts.ensures c.args.nvp w h border in
-    let agreed-now : Agreed ((job_of c.args.nvp 0 0 0 c.args.lengths.now c.args.regions.now c.args.codes.now c.args.numbers.now)) =
-    counts_agreed ((job_of c.args.nvp 0 0 0 c.args.lengths.now c.args.regions.now c.args.codes.now c.args.numbers.now)) (counts-say 0 0 0)
-    c.in-Passed-counts.is in
-    (agreed-now).contours
+    let a = c.args in let j = job_of a.nvp 0 0 0 a.lengths.now a.regions.now a.codes.now a.numbers.now in
+    let agreed = counts_agreed j (c.check_counts.ensures a.nvp 0 0 0) c.in_ok-check_counts.was in
+    agreed.contours
 
-pub check_high-high-requires : goal.check_high-high-requires
-check_high-high-requires c =
-    let counts-say : (w h border : ℕ) → c.check_counts-counts.result ≡ verdict_of
-    (check_counts ((job_of c.args.nvp w h border c.args.lengths.now c.args.regions.now c.args.codes.now c.args.numbers.now))) =
-    λ w h border. c.check_counts-counts.ensures c.args.nvp w h border in
-    let agreed-now : Agreed ((job_of c.args.nvp 0 0 0 c.args.lengths.now c.args.regions.now c.args.codes.now c.args.numbers.now)) =
-    counts_agreed ((job_of c.args.nvp 0 0 0 c.args.lengths.now c.args.regions.now c.args.codes.now c.args.numbers.now)) (counts-say 0 0 0)
-    c.in-Passed-counts.is in
-    numbers_fit _ (agreed-now) c.count_all-n.ensures.is
+pub check_high-requires : goal.check_high-requires
+check_high-requires c =
+    let a = c.args in let j = job_of a.nvp 0 0 0 a.lengths.now a.regions.now a.codes.now a.numbers.now in
+    let agreed = counts_agreed j (c.check_counts.ensures a.nvp 0 0 0) c.in_ok-check_counts.was in
+    numbers_fit j agreed c.count_all-n.ensures.is
 
-pub check_flags-flags-requires : goal.check_flags-flags-requires
-check_flags-flags-requires c =
-    let counts-say : (w h border : ℕ) → c.check_counts-counts.result ≡ verdict_of
-    (check_counts ((job_of c.args.nvp w h border c.args.lengths.now c.args.regions.now c.args.codes.now c.args.numbers.now))) =
-    λ w h border. c.check_counts-counts.ensures c.args.nvp w h border in
-    let agreed-now : Agreed ((job_of c.args.nvp 0 0 0 c.args.lengths.now c.args.regions.now c.args.codes.now c.args.numbers.now)) =
-    counts_agreed ((job_of c.args.nvp 0 0 0 c.args.lengths.now c.args.regions.now c.args.codes.now c.args.numbers.now)) (counts-say 0 0 0)
-    c.in-Passed-counts.is in
-    numbers_fit _ (agreed-now) c.count_all-n.ensures.is
+pub returns-in_err-check_high : goal.returns-in_err-check_high
+returns-in_err-check_high c w h border =
+    let a = c.args in let j = job_of a.nvp w h border a.lengths.now a.regions.now a.codes.now a.numbers.now in
+    let left-1 = all_left j a.have in
+    let left-2 = past left-1 (c.check_nvp.ensures j refl) c.in_ok-check_nvp.was in
+    let left-3 = past left-2 (c.check_counts.ensures a.nvp w h border) c.in_ok-check_counts.was in
+    let p = err_from_is_err_and c.from_residual-in_err-check_high.result c.from_residual-in_err-check_high.ensures.1 in
+    rw (p.1, p.2) (stop left-3 (high_says j c.count_all-n.ensures.is c.check_high.ensures) c.in_err-check_high.was)
 
-pub returns-in_default-vertices : goal.returns-in_default-vertices
-returns-in_default-vertices c w h border =
-    let limit-says : (w h border : ℕ) → c.check_nvp-limit.result ≡ verdict_of
-    (check_nvp ((job_of c.args.nvp w h border c.args.lengths.now c.args.regions.now c.args.codes.now c.args.numbers.now))) =
-    λ w h border. c.check_nvp-limit.ensures ((job_of c.args.nvp w h border c.args.lengths.now c.args.regions.now c.args.codes.now
-    c.args.numbers.now)) refl in
-    let left-2 : (w h border : ℕ) → Left-2 ((job_of c.args.nvp w h border c.args.lengths.now c.args.regions.now c.args.codes.now c.args.numbers.now))
-    ((c.args.have)) = λ w h border. record { same = past (all_left _ _) (limit-says w h border) c.in-Passed.is } in
-    let counts-say : (w h border : ℕ) → c.check_counts-counts.result ≡ verdict_of
-    (check_counts ((job_of c.args.nvp w h border c.args.lengths.now c.args.regions.now c.args.codes.now c.args.numbers.now))) =
-    λ w h border. c.check_counts-counts.ensures c.args.nvp w h border in
-    let left-3 : (w h border : ℕ) → Left-3 ((job_of c.args.nvp w h border c.args.lengths.now c.args.regions.now c.args.codes.now c.args.numbers.now))
-    ((c.args.have)) = λ w h border. record { same = past (left-2 w h border) (counts-say w h border) c.in-Passed-counts.is } in
-    let vertices-say : (w h border : ℕ) → c.or_next-vertices.result ≡ verdict_of
-    (vertex_checks ((job_of c.args.nvp w h border c.args.lengths.now c.args.regions.now c.args.codes.now c.args.numbers.now))) =
-    λ w h border. vertices_are ((job_of c.args.nvp w h border c.args.lengths.now c.args.regions.now c.args.codes.now c.args.numbers.now))
-    c.count_all-n.ensures.is c.check_high-high.ensures c.check_flags-flags.ensures c.or_next-vertices.ensures in
-    stop (left-3 w h border) (vertices-say w h border) c.in_default-vertices.is
+pub check_flags-requires : goal.check_flags-requires
+check_flags-requires c =
+    let a = c.args in let j = job_of a.nvp 0 0 0 a.lengths.now a.regions.now a.codes.now a.numbers.now in
+    let agreed = counts_agreed j (c.check_counts.ensures a.nvp 0 0 0) c.in_ok-check_counts.was in
+    numbers_fit j agreed c.count_all-n.ensures.is
+
+pub returns-in_err-check_flags : goal.returns-in_err-check_flags
+returns-in_err-check_flags c w h border =
+    let a = c.args in let j = job_of a.nvp w h border a.lengths.now a.regions.now a.codes.now a.numbers.now in
+    let left-1 = all_left j a.have in
+    let left-2 = past left-1 (c.check_nvp.ensures j refl) c.in_ok-check_nvp.was in
+    let left-3 = past left-2 (c.check_counts.ensures a.nvp w h border) c.in_ok-check_counts.was in
+    let left-4 = past left-3 (high_says j c.count_all-n.ensures.is c.check_high.ensures) c.in_ok-check_high.was in
+    let p = err_from_is_err_and c.from_residual-in_err-check_flags.result c.from_residual-in_err-check_flags.ensures.1 in
+    rw (p.1, p.2) (stop left-4 (flags_say j c.count_all-n.ensures.is c.check_flags.ensures) c.in_err-check_flags.was)
 
 pub count_v-v-requires : goal.count_v-v-requires
 count_v-v-requires c =
-    let counts-say : (w h border : ℕ) → c.check_counts-counts.result ≡ verdict_of
-    (check_counts ((job_of c.args.nvp w h border c.args.lengths.now c.args.regions.now c.args.codes.now c.args.numbers.now))) =
-    λ w h border. c.check_counts-counts.ensures c.args.nvp w h border in
-    let agreed-now : Agreed ((job_of c.args.nvp 0 0 0 c.args.lengths.now c.args.regions.now c.args.codes.now c.args.numbers.now)) =
-    counts_agreed ((job_of c.args.nvp 0 0 0 c.args.lengths.now c.args.regions.now c.args.codes.now c.args.numbers.now)) (counts-say 0 0 0)
-    c.in-Passed-counts.is in
-    (agreed-now).contours
+    let a = c.args in let j = job_of a.nvp 0 0 0 a.lengths.now a.regions.now a.codes.now a.numbers.now in
+    let agreed = counts_agreed j (c.check_counts.ensures a.nvp 0 0 0) c.in_ok-check_counts.was in
+    agreed.contours
 
-pub returns-in_default-many : goal.returns-in_default-many
-returns-in_default-many c w h border =
-    let limit-says : (w h border : ℕ) → c.check_nvp-limit.result ≡ verdict_of
-    (check_nvp ((job_of c.args.nvp w h border c.args.lengths.now c.args.regions.now c.args.codes.now c.args.numbers.now))) =
-    λ w h border. c.check_nvp-limit.ensures ((job_of c.args.nvp w h border c.args.lengths.now c.args.regions.now c.args.codes.now
-    c.args.numbers.now)) refl in
-    let left-2 : (w h border : ℕ) → Left-2 ((job_of c.args.nvp w h border c.args.lengths.now c.args.regions.now c.args.codes.now c.args.numbers.now))
-    ((c.args.have)) = λ w h border. record { same = past (all_left _ _) (limit-says w h border) c.in-Passed.is } in
-    let counts-say : (w h border : ℕ) → c.check_counts-counts.result ≡ verdict_of
-    (check_counts ((job_of c.args.nvp w h border c.args.lengths.now c.args.regions.now c.args.codes.now c.args.numbers.now))) =
-    λ w h border. c.check_counts-counts.ensures c.args.nvp w h border in
-    let left-3 : (w h border : ℕ) → Left-3 ((job_of c.args.nvp w h border c.args.lengths.now c.args.regions.now c.args.codes.now c.args.numbers.now))
-    ((c.args.have)) = λ w h border. record { same = past (left-2 w h border) (counts-say w h border) c.in-Passed-counts.is } in
-    let vertices-say : (w h border : ℕ) → c.or_next-vertices.result ≡ verdict_of
-    (vertex_checks ((job_of c.args.nvp w h border c.args.lengths.now c.args.regions.now c.args.codes.now c.args.numbers.now))) =
-    λ w h border. vertices_are ((job_of c.args.nvp w h border c.args.lengths.now c.args.regions.now c.args.codes.now c.args.numbers.now))
-    c.count_all-n.ensures.is c.check_high-high.ensures c.check_flags-flags.ensures c.or_next-vertices.ensures in
-    let left-5 : (w h border : ℕ) → Left-5 ((job_of ((c.before.before.before.before.before.before.before)).args.nvp w h border
-    ((c.before.before.before.before.before.before.before)).args.lengths.now
-    ((c.before.before.before.before.before.before.before)).args.regions.now ((c.before.before.before.before.before.before.before)).args.codes.now
-    ((c.before.before.before.before.before.before.before)).args.numbers.now))
-    ((((c.before.before.before.before.before.before.before)).args.have)) =
-    λ w h border. record { same = past (left-3 w h border) (vertices-say w h border) c.in-Passed-vertices.is } in
-    let many-says : (w h border : ℕ) → c.check_v-many.result ≡ verdict_of
-    (check_v ((job_of ((c.before.before.before.before.before.before.before)).args.nvp w h border
-    ((c.before.before.before.before.before.before.before)).args.lengths.now
-    ((c.before.before.before.before.before.before.before)).args.regions.now ((c.before.before.before.before.before.before.before)).args.codes.now
-    ((c.before.before.before.before.before.before.before)).args.numbers.now))) =
-    λ w h border. many_is ((job_of ((c.before.before.before.before.before.before.before)).args.nvp w h border
-    ((c.before.before.before.before.before.before.before)).args.lengths.now
-    ((c.before.before.before.before.before.before.before)).args.regions.now ((c.before.before.before.before.before.before.before)).args.codes.now
-    ((c.before.before.before.before.before.before.before)).args.numbers.now)) c.count_v-v.ensures c.check_v-many.ensures in
-    stop (left-5 w h border) (many-says w h border) c.in_default-many.is
+pub returns-in_err-check_v : goal.returns-in_err-check_v
+returns-in_err-check_v c w h border =
+    let a = c.args in let j = job_of a.nvp w h border a.lengths.now a.regions.now a.codes.now a.numbers.now in
+    let left-1 = all_left j a.have in
+    let left-2 = past left-1 (c.check_nvp.ensures j refl) c.in_ok-check_nvp.was in
+    let left-3 = past left-2 (c.check_counts.ensures a.nvp w h border) c.in_ok-check_counts.was in
+    let left-4 = past left-3 (high_says j c.count_all-n.ensures.is c.check_high.ensures) c.in_ok-check_high.was in
+    let left-5 = past left-4 (flags_say j c.count_all-n.ensures.is c.check_flags.ensures) c.in_ok-check_flags.was in
+    let p = err_from_is_err_and c.from_residual-in_err-check_v.result c.from_residual-in_err-check_v.ensures.1 in
+    rw (p.1, p.2) (stop left-5 (many_is j c.count_v-v.ensures c.check_v.ensures) c.in_err-check_v.was)
 
 pub count_t-requires : goal.count_t-requires
 count_t-requires c =
-    let counts-say : (w h border : ℕ) → c.check_counts-counts.result ≡ verdict_of
-    (check_counts ((job_of c.args.nvp w h border c.args.lengths.now c.args.regions.now c.args.codes.now c.args.numbers.now))) =
-    λ w h border. c.check_counts-counts.ensures c.args.nvp w h border in
-    let agreed-now : Agreed ((job_of c.args.nvp 0 0 0 c.args.lengths.now c.args.regions.now c.args.codes.now c.args.numbers.now)) =
-    counts_agreed ((job_of c.args.nvp 0 0 0 c.args.lengths.now c.args.regions.now c.args.codes.now c.args.numbers.now)) (counts-say 0 0 0)
-    c.in-Passed-counts.is in
-    (agreed-now).contours
+    let a = c.args in let j = job_of a.nvp 0 0 0 a.lengths.now a.regions.now a.codes.now a.numbers.now in
+    let agreed = counts_agreed j (c.check_counts.ensures a.nvp 0 0 0) c.in_ok-check_counts.was in
+    agreed.contours
 
 pub check_room-requires : goal.check_room-requires
 check_room-requires c =
-    let limit-says : (w h border : ℕ) → c.check_nvp-limit.result ≡ verdict_of
-    (check_nvp ((job_of c.args.nvp w h border c.args.lengths.now c.args.regions.now c.args.codes.now c.args.numbers.now))) =
-    λ w h border. c.check_nvp-limit.ensures ((job_of c.args.nvp w h border c.args.lengths.now c.args.regions.now c.args.codes.now
-    c.args.numbers.now)) refl in
+    let a = c.args in let j = job_of a.nvp 0 0 0 a.lengths.now a.regions.now a.codes.now a.numbers.now in
     record {
-      nvp_most = limit_low ((job_of (((c.before.before.before.before.before.before.before))).args.nvp 0 0 0
-          (((c.before.before.before.before.before.before.before))).args.lengths.now
-          (((c.before.before.before.before.before.before.before))).args.regions.now
-          (((c.before.before.before.before.before.before.before))).args.codes.now
-          (((c.before.before.before.before.before.before.before))).args.numbers.now)) (limit-says 0 0 0) c.in-Passed.is;
-      v_most = few c.check_v-many.ensures c.in-Passed-many.is;
-      t_most = t_below ((job_of (((c.before.before.before.before.before.before.before))).args.nvp 0 0 0
-          (((c.before.before.before.before.before.before.before))).args.lengths.now
-          (((c.before.before.before.before.before.before.before))).args.regions.now
-          (((c.before.before.before.before.before.before.before))).args.codes.now
-          (((c.before.before.before.before.before.before.before))).args.numbers.now)) c.count_v-v.ensures c.count_t.ensures;
+      nvp_most = limit_low j (c.check_nvp.ensures j refl) c.in_ok-check_nvp.was;
+      v_most = few c.check_v.ensures c.in_ok-check_v.was;
+      t_most = t_below j c.count_v-v.ensures c.count_t.ensures;
     }
 
 pub returns : goal.returns
 returns c w h border =
-    let limit-says : (w h border : ℕ) → c.check_nvp-limit.result ≡ verdict_of
-    (check_nvp ((job_of c.args.nvp w h border c.args.lengths.now c.args.regions.now c.args.codes.now c.args.numbers.now))) =
-    λ w h border. c.check_nvp-limit.ensures ((job_of c.args.nvp w h border c.args.lengths.now c.args.regions.now c.args.codes.now
-    c.args.numbers.now)) refl in
-    let left-2 : (w h border : ℕ) → Left-2 ((job_of c.args.nvp w h border c.args.lengths.now c.args.regions.now c.args.codes.now c.args.numbers.now))
-    ((c.args.have)) = λ w h border. record { same = past (all_left _ _) (limit-says w h border) c.in-Passed.is } in
-    let counts-say : (w h border : ℕ) → c.check_counts-counts.result ≡ verdict_of
-    (check_counts ((job_of c.args.nvp w h border c.args.lengths.now c.args.regions.now c.args.codes.now c.args.numbers.now))) =
-    λ w h border. c.check_counts-counts.ensures c.args.nvp w h border in
-    let left-3 : (w h border : ℕ) → Left-3 ((job_of c.args.nvp w h border c.args.lengths.now c.args.regions.now c.args.codes.now c.args.numbers.now))
-    ((c.args.have)) = λ w h border. record { same = past (left-2 w h border) (counts-say w h border) c.in-Passed-counts.is } in
-    let vertices-say : (w h border : ℕ) → c.or_next-vertices.result ≡ verdict_of
-    (vertex_checks ((job_of c.args.nvp w h border c.args.lengths.now c.args.regions.now c.args.codes.now c.args.numbers.now))) =
-    λ w h border. vertices_are ((job_of c.args.nvp w h border c.args.lengths.now c.args.regions.now c.args.codes.now c.args.numbers.now))
-    c.count_all-n.ensures.is c.check_high-high.ensures c.check_flags-flags.ensures c.or_next-vertices.ensures in
-    let left-5 : (w h border : ℕ) → Left-5 ((job_of ((c.before.before.before.before.before.before.before)).args.nvp w h border
-    ((c.before.before.before.before.before.before.before)).args.lengths.now
-    ((c.before.before.before.before.before.before.before)).args.regions.now ((c.before.before.before.before.before.before.before)).args.codes.now
-    ((c.before.before.before.before.before.before.before)).args.numbers.now))
-    ((((c.before.before.before.before.before.before.before)).args.have)) =
-    λ w h border. record { same = past (left-3 w h border) (vertices-say w h border) c.in-Passed-vertices.is } in
-    let many-says : (w h border : ℕ) → c.check_v-many.result ≡ verdict_of
-    (check_v ((job_of ((c.before.before.before.before.before.before.before)).args.nvp w h border
-    ((c.before.before.before.before.before.before.before)).args.lengths.now
-    ((c.before.before.before.before.before.before.before)).args.regions.now ((c.before.before.before.before.before.before.before)).args.codes.now
-    ((c.before.before.before.before.before.before.before)).args.numbers.now))) =
-    λ w h border. many_is ((job_of ((c.before.before.before.before.before.before.before)).args.nvp w h border
-    ((c.before.before.before.before.before.before.before)).args.lengths.now
-    ((c.before.before.before.before.before.before.before)).args.regions.now ((c.before.before.before.before.before.before.before)).args.codes.now
-    ((c.before.before.before.before.before.before.before)).args.numbers.now)) c.count_v-v.ensures c.check_v-many.ensures in
-    let left-6 : (w h border : ℕ) →
-    verdict_of (room_check ((job_of (((c.before.before.before.before.before.before.before))).args.nvp w h border
-    (((c.before.before.before.before.before.before.before))).args.lengths.now
-    (((c.before.before.before.before.before.before.before))).args.regions.now
-    (((c.before.before.before.before.before.before.before))).args.codes.now
-    (((c.before.before.before.before.before.before.before))).args.numbers.now))
-    (((((c.before.before.before.before.before.before.before))).args.have))) ≡ verdict_of
-    (check ((job_of (((c.before.before.before.before.before.before.before))).args.nvp w h border
-    (((c.before.before.before.before.before.before.before))).args.lengths.now
-    (((c.before.before.before.before.before.before.before))).args.regions.now
-    (((c.before.before.before.before.before.before.before))).args.codes.now
-    (((c.before.before.before.before.before.before.before))).args.numbers.now))
-    (((((c.before.before.before.before.before.before.before))).args.have))) = λ w h border. past (left-5 w h border) (many-says w h border)
-    c.in-Passed-many.is in
-    let s = ((c.before.before.before.before.before.before.before)) in
-    room_is ((job_of s.args.nvp w h border s.args.lengths.now s.args.regions.now s.args.codes.now s.args.numbers.now)) c.count_v-v.ensures
-    c.count_t.ensures (s.args.have) c.check_room.ensures ∙ left-6 w h border
+    let a = c.args in let j = job_of a.nvp w h border a.lengths.now a.regions.now a.codes.now a.numbers.now in
+    let left-1 = all_left j a.have in
+    let left-2 = past left-1 (c.check_nvp.ensures j refl) c.in_ok-check_nvp.was in
+    let left-3 = past left-2 (c.check_counts.ensures a.nvp w h border) c.in_ok-check_counts.was in
+    let left-4 = past left-3 (high_says j c.count_all-n.ensures.is c.check_high.ensures) c.in_ok-check_high.was in
+    let left-5 = past left-4 (flags_say j c.count_all-n.ensures.is c.check_flags.ensures) c.in_ok-check_flags.was in
+    room_is j c.count_v-v.ensures c.count_t.ensures a.have c.check_room.ensures ∙ last left-5 (many_is j c.count_v-v.ensures c.check_v.ensures) c.in_ok-check_v.was

@@ -6,5 +6,5 @@ use Rattle.checks.proofs.check.check_flags.Goals as goal
 pub returns-in-Some : goal.returns-in-Some
 returns-in-Some c = found_at BadFlag c.first_bad_flag.ensures c.in-Some.is
 
-pub returns-in-None : goal.returns-in-None
-returns-in-None c = found_none BadFlag c.first_bad_flag.ensures c.in-None.is
+pub returns : goal.returns
+returns c = found_none BadFlag c.first_bad_flag.ensures c.in_default.is

@@ -11,4 +11,4 @@ returns c j e = limit_is j false e c.if-nvp.false
 
 pub returns-then-nvp : goal.returns-then-nvp
 unfolding verdict_of refuse_if
-returns-then-nvp c j e = limit_is j true e c.if-nvp.true
+returns-then-nvp c j e = rw c.from.ensures (limit_is j true e c.if-nvp.true)

@@ -8,5 +8,5 @@ use Rattle.checks.proofs.check.check_room.Goals as goal
 pub returns-in-Some : goal.returns-in-Some
 returns-in-Some c = found_at ShortBuffer (c.first_short.ensures ∙ ap (first_short c.args.have) c.least_lengths.ensures) c.in-Some.is
 
-pub returns-in-None : goal.returns-in-None
-returns-in-None c = found_none ShortBuffer (c.first_short.ensures ∙ ap (first_short c.args.have) c.least_lengths.ensures) c.in-None.is
+pub returns : goal.returns
+returns c = found_none ShortBuffer (c.first_short.ensures ∙ ap (first_short c.args.have) c.least_lengths.ensures) c.in_default.is

@@ -8,13 +8,13 @@ use Rattle.contours.proofs.Adds.{contour_cut_ready, contour_weld_ready, contour_
 use Rattle.contours.proofs.Adds.{add_over, add_answer, stuck_words, stuck_answer}
 use Rattle.contours.proofs.add.add_contour.Goals as goal
 
-pub returns-in-Done : goal.returns-in-Done
-returns-in-Done c =
-    let x = was_done _ _ (rw c.in-Done.is at c.cut_contour.ensures.answer) in
+pub returns-in-Ok : goal.returns-in-Ok
+returns-in-Ok c =
+    let x = was_done _ _ (rw c.in-Ok.is at c.cut_contour.ensures.answer) in
     let e = c.mesh_contour-p.ensures in record {
       answer = add_answer c.requires c.cut_contour.ensures.words x.ts x.is c.weld_contour-v.ensures x.count e.meshed;
       words = add_over c.requires c.cut_contour.ensures.words x.ts x.is c.weld_contour-v.ensures x.count e.meshed e.is
-          c.fill.ensures c.fill-in-Done.ensures;
+          c.fill.ensures c.fill-in-Ok.ensures;
     }
 
 pub cut_contour-requires : goal.cut_contour-requires
@@ -23,13 +23,13 @@ cut_contour-requires c = contour_cut_ready c.requires
 pub weld_contour-v-requires : goal.weld_contour-v-requires
 weld_contour-v-requires c =
     let h = c.cut_contour in
-    let x = was_done _ _ (rw c.in-Done.is at h.ensures.answer) in
+    let x = was_done _ _ (rw c.in-Ok.is at h.ensures.answer) in
     contour_weld_ready c.requires h.ensures.words x.ts x.is
 
 pub mesh_contour-p-requires : goal.mesh_contour-p-requires
 mesh_contour-p-requires c =
     let h = c.cut_contour in
-    let x = was_done _ _ (rw c.in-Done.is at h.ensures.answer) in
+    let x = was_done _ _ (rw c.in-Ok.is at h.ensures.answer) in
     contour_mesh_ready c.requires h.ensures.words x.ts x.is c.weld_contour-v.ensures x.count
 
 pub fill-requires : goal.fill-requires
@@ -48,8 +48,8 @@ overflow_mul-c c = record { fits = omega (arith, c.requires.vertices, c.requires
 pub overflow_sub-c : goal.overflow_sub-c
 overflow_sub-c c = omega (arith, c.requires.some)
 
-pub fill-requires-in-Done : goal.fill-requires-in-Done
-fill-requires-in-Done c = omega (
+pub fill-requires-in-Ok : goal.fill-requires-in-Ok
+fill-requires-in-Ok c = omega (
   arith,
   c.fill.auto.work,
   c.mesh_contour-p.auto.work,
@@ -62,15 +62,15 @@ fill-requires-in-Done c = omega (
 pub overflow_add-result : goal.overflow_add-result
 overflow_add-result c =
     let short-enough : length c.args.work.now < 2 ^ 64 = omega arith in
-    let x = was_done _ _ (rw c.in-Done.is at c.cut_contour.ensures.answer) in
+    let x = was_done _ _ (rw c.in-Ok.is at c.cut_contour.ensures.answer) in
     let f = polygons_fit c.requires c.cut_contour.ensures.words x.ts x.is c.weld_contour-v.ensures x.count c.mesh_contour-p.ensures.meshed in
     record { fits = omega (arith, short-enough, f) }
 
-pub shape_of-work-in-Done : goal.shape_of-work-in-Done
-shape_of-work-in-Done c = c.fill-in-Done.auto.work ∙ c.fill.auto.work ∙ c.mesh_contour-p.auto.work ∙ c.weld_contour-v.auto.work ∙ c.cut_contour.auto.work
+pub shape_of-work-in-Ok : goal.shape_of-work-in-Ok
+shape_of-work-in-Ok c = c.fill-in-Ok.auto.work ∙ c.fill.auto.work ∙ c.mesh_contour-p.auto.work ∙ c.weld_contour-v.auto.work ∙ c.cut_contour.auto.work
 
-pub returns-in-Stuck : goal.returns-in-Stuck
-returns-in-Stuck c =
+pub returns-in-Err : goal.returns-in-Err
+returns-in-Err c =
     let h = c.cut_contour in
-    let d = was_stuck _ _ (rw c.in-Stuck.is at h.ensures.answer) in
-    record { answer = stuck_answer c.requires h.ensures.words d; words = stuck_words c.requires h.ensures.words d c.fill-in-Stuck.ensures }
+    let d = was_stuck _ _ (rw c.in-Err.is at h.ensures.answer) in
+    record { answer = stuck_answer c.requires h.ensures.words d; words = stuck_words c.requires h.ensures.words d c.fill-in-Err.ensures }

@@ -17,12 +17,12 @@ add_next-requires c = going_ready c.requires c.loop-c.invariant c.loop-c-test.tr
 pub fill-requires : goal.fill-requires
 fill-requires c = omega arith
 
-pub shape_of-work-in-NoEar : goal.shape_of-work-in-NoEar
-shape_of-work-in-NoEar c = c.fill.auto.work ∙ c.add_next.auto.work ∙ c.loop-c.invariant.size
+pub shape_of-work-in-Err : goal.shape_of-work-in-Err
+shape_of-work-in-Err c = c.fill.auto.work ∙ c.add_next.auto.work ∙ c.loop-c.invariant.size
 
-pub returns-in-NoEar : goal.returns-in-NoEar
-returns-in-NoEar c =
-    let both = going_stuck c.requires c.loop-c.invariant c.loop-c-test.true c.contour_at-k.ensures (rw c.in-NoEar.is at c.add_next.ensures.answer)
+pub returns-in-Err : goal.returns-in-Err
+returns-in-Err c =
+    let both = going_stuck c.requires c.loop-c.invariant c.loop-c-test.true c.contour_at-k.ensures (rw c.in-Err.is at c.add_next.ensures.answer)
     c.add_next.ensures.words c.fill.ensures in
     record { answer = both.0; words = both.1 }
 
@@ -34,7 +34,7 @@ overflow_add-first c =
 
 pub loop-c-preserved : goal.loop-c-preserved
 loop-c-preserved c =
-    going_more c.requires c.loop-c.invariant c.loop-c-test.true c.contour_at-k.ensures (rw c.in-To.is at c.add_next.ensures.answer) c.add_next.ensures.words
+    going_more c.requires c.loop-c.invariant c.loop-c-test.true c.contour_at-k.ensures (rw c.in-Ok.is at c.add_next.ensures.answer) c.add_next.ensures.words
 
 pub returns : goal.returns
 returns c =

@@ -30,8 +30,8 @@ cut_all-t-requires c =
       omega (arith, marked-long, c.requires.some, c.requires.size),
     )
 
-pub returns-in-Done : goal.returns-in-Done
-returns-in-Done c =
+pub returns-in-Ok : goal.returns-in-Ok
+returns-in-Ok c =
     let counted : take (c.args.n * 2) (c.args.part.now) ++ (c.count_up.new.ix ++ drop (c.args.n * 3 - c.args.n * 2) (drop (c.args.n * 2) (c.args.part.now)))
     ≡ splice (c.args.part.now) (c.args.n * 2) (indices (c.args.n)) = let e : c.args.n * 3 - c.args.n * 2 ≡ c.args.n = omega arith in
     lent_sized indices (c.args.part.now) c.count_up.new.ix (c.args.n * 2) (c.args.n) _ e
@@ -40,12 +40,12 @@ returns-in-Done c =
     let cut-long : length c.cut_all-t.new.w ≡ length (c.args.part.now) = c.cut_all-t.auto.w ∙ marked-long in
     let n = c.args.n in
     let v = c.args.part.now in
-    let q = c.in-Done.is in
+    let q = c.in-Ok.is in
     let l = cut-long in
     let ended = c.fill in record { answer = answered n v c.requires (counted) c.mark_all.ensures c.cut_all-t.ensures; words = done_words n v c.requires (counted) c.mark_all.ensures c.cut_all-t.ensures q l ended.ensures }
 
-pub returns-in-Stuck : goal.returns-in-Stuck
-returns-in-Stuck c =
+pub returns-in-Err : goal.returns-in-Err
+returns-in-Err c =
     let counted : take (c.args.n * 2) (c.args.part.now) ++ (c.count_up.new.ix ++ drop (c.args.n * 3 - c.args.n * 2) (drop (c.args.n * 2) (c.args.part.now)))
     ≡ splice (c.args.part.now) (c.args.n * 2) (indices (c.args.n)) = let e : c.args.n * 3 - c.args.n * 2 ≡ c.args.n = omega arith in
     lent_sized indices (c.args.part.now) c.count_up.new.ix (c.args.n * 2) (c.args.n) _ e
@@ -55,5 +55,5 @@ returns-in-Stuck c =
     let n = c.args.n in
     let v = c.args.part.now in
     let l = cut-long in
-    let q = c.in-Stuck.is in
-    let ended = c.fill-in-Stuck in record { answer = answered n v c.requires (counted) c.mark_all.ensures c.cut_all-t.ensures; words = stuck_words n v c.requires (counted) c.mark_all.ensures c.cut_all-t.ensures q l ended.ensures }
+    let q = c.in-Err.is in
+    let ended = c.fill-in-Err in record { answer = answered n v c.requires (counted) c.mark_all.ensures c.cut_all-t.ensures; words = stuck_words n v c.requires (counted) c.mark_all.ensures c.cut_all-t.ensures q l ended.ensures }

@@ -2,10 +2,10 @@
 use Rattle.rules.specs.Ears.{better}
 use Rattle.ears.proofs.search.better_of.Goals as goal
 
-pub returns-then-ok-best : goal.returns-then-ok-best
+pub returns-then-ok-beats : goal.returns-then-ok-beats
 unfolding better
-returns-then-ok-best c = rw c.if-ok-best.true
+returns-then-ok-beats c = rw (← c.beats.ensures, c.if-ok-beats.true)
 
-pub returns-else-ok-best : goal.returns-else-ok-best
+pub returns-else-ok-beats : goal.returns-else-ok-beats
 unfolding better
-returns-else-ok-best c = rw c.if-ok-best.false
+returns-else-ok-beats c = rw (← c.beats.ensures, c.if-ok-beats.false)

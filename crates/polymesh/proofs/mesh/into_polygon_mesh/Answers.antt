@@ -10,34 +10,34 @@ use Rattle.outputs.specs.Ready.{buffers}
 use Rattle.polymesh.proofs.Meshes.{refused_all, few_contours, few_vertices, work_fits, admitted, build_ready, built_all}
 use Rattle.polymesh.proofs.mesh.into_polygon_mesh.Goals as goal
 
-pub returns-in-Refused : goal.returns-in-Refused
+pub returns-in-Err : goal.returns-in-Err
 unfolding lengths_of
-returns-in-Refused c =
+returns-in-Err c =
     let both = refused_all c.args.header (job_of c.args.nvp c.args.w c.args.h c.args.border _ _ _ _) _
-    (is_refusal _ _ (sym (c.check.ensures c.args.w c.args.h c.args.border) ∙ c.in-Refused.is)) in
+    (is_refusal _ _ (sym (c.check.ensures c.args.w c.args.h c.args.border) ∙ c.in-Err.is)) in
     record { answer = both.0; words = both.1.0; accepted = both.1.1 }
 
 pub count_v-v-requires : goal.count_v-v-requires
-count_v-v-requires c = few_contours (job_of c.args.nvp 0 0 0 _ _ _ _) _ (is_passed _ (sym (c.check.ensures 0 0 0) ∙ c.in-Passed.is))
+count_v-v-requires c = few_contours (job_of c.args.nvp 0 0 0 _ _ _ _) _ (is_passed _ (sym (c.check.ensures 0 0 0) ∙ c.in_default.is))
 
 pub count_t-t-requires : goal.count_t-t-requires
-count_t-t-requires c = few_contours (job_of c.args.nvp 0 0 0 _ _ _ _) _ (is_passed _ (sym (c.check.ensures 0 0 0) ∙ c.in-Passed.is))
+count_t-t-requires c = few_contours (job_of c.args.nvp 0 0 0 _ _ _ _) _ (is_passed _ (sym (c.check.ensures 0 0 0) ∙ c.in_default.is))
 
 pub work_words-n-requires : goal.work_words-n-requires
 work_words-n-requires c =
     let j = job_of c.args.nvp 0 0 0 _ _ _ _ in
-    few_vertices j _ (is_passed _ (sym (c.check.ensures 0 0 0) ∙ c.in-Passed.is)) (c.count_v-v.ensures ∙ sym (v_is j))
+    few_vertices j _ (is_passed _ (sym (c.check.ensures 0 0 0) ∙ c.in_default.is)) (c.count_v-v.ensures ∙ sym (v_is j))
 
 pub slice_bounds-build-end : goal.slice_bounds-build-end
 unfolding lengths_of
 slice_bounds-build-end c =
-    let p = is_passed _ (sym (c.check.ensures 0 0 0) ∙ c.in-Passed.is) in
+    let p = is_passed _ (sym (c.check.ensures 0 0 0) ∙ c.in_default.is) in
     work_fits ((job_of c.args.nvp 0 0 0 c.args.lengths.now c.args.regions.now c.args.codes.now c.args.numbers.now)) ((buffers c.args.vertices.now c.args.polygons.now c.args.neighbours.now c.args.polyregions.now c.args.polycodes.now c.args.flags.now c.args.work.now)) p (c.count_v-v.ensures ∙ sym (v_is ((job_of c.args.nvp 0 0 0 c.args.lengths.now c.args.regions.now c.args.codes.now c.args.numbers.now)))) c.work_words-n.ensures
 
-pub slice_bounds-build-end-in-Passed : goal.slice_bounds-build-end-in-Passed
+pub slice_bounds-build-end-2 : goal.slice_bounds-build-end-2
 unfolding lengths_of
-slice_bounds-build-end-in-Passed c =
-    let p = is_passed _ (sym (c.check.ensures 0 0 0) ∙ c.in-Passed.is) in
+slice_bounds-build-end-2 c =
+    let p = is_passed _ (sym (c.check.ensures 0 0 0) ∙ c.in_default.is) in
     sym (length-take-le _ c.args.work.now (work_fits ((job_of c.args.nvp 0 0 0 c.args.lengths.now c.args.regions.now c.args.codes.now c.args.numbers.now)) ((buffers c.args.vertices.now c.args.polygons.now c.args.neighbours.now c.args.polyregions.now c.args.polycodes.now c.args.flags.now c.args.work.now)) p (c.count_v-v.ensures ∙ sym (v_is ((job_of c.args.nvp 0 0 0 c.args.lengths.now c.args.regions.now c.args.codes.now c.args.numbers.now)))) c.work_words-n.ensures))
 
 pub build-reply-requires : goal.build-reply-requires
@@ -45,7 +45,7 @@ unfolding lengths_of
 build-reply-requires c =
     let a = c.count_v-v.ensures in
     let t = c.count_t-t.ensures in
-    let p : (x y z : ℕ) → check ((job_of c.args.nvp x y z c.args.lengths.now c.args.regions.now c.args.codes.now c.args.numbers.now)) (lengths_of ((buffers c.args.vertices.now c.args.polygons.now c.args.neighbours.now c.args.polyregions.now c.args.polycodes.now c.args.flags.now c.args.work.now))) ≡ passed = λ x y z. is_passed (check ((job_of c.args.nvp x y z c.args.lengths.now c.args.regions.now c.args.codes.now c.args.numbers.now)) (lengths_of ((buffers c.args.vertices.now c.args.polygons.now c.args.neighbours.now c.args.polyregions.now c.args.polycodes.now c.args.flags.now c.args.work.now)))) (sym (c.check.ensures x y z) ∙ c.in-Passed.is) in
+    let p : (x y z : ℕ) → check ((job_of c.args.nvp x y z c.args.lengths.now c.args.regions.now c.args.codes.now c.args.numbers.now)) (lengths_of ((buffers c.args.vertices.now c.args.polygons.now c.args.neighbours.now c.args.polyregions.now c.args.polycodes.now c.args.flags.now c.args.work.now))) ≡ passed = λ x y z. is_passed (check ((job_of c.args.nvp x y z c.args.lengths.now c.args.regions.now c.args.codes.now c.args.numbers.now)) (lengths_of ((buffers c.args.vertices.now c.args.polygons.now c.args.neighbours.now c.args.polyregions.now c.args.polycodes.now c.args.flags.now c.args.work.now)))) (sym (c.check.ensures x y z) ∙ c.in_default.is) in
     let n = c.work_words-n.ensures in
     let l = length-take-le _ c.args.work.now (work_fits ((job_of c.args.nvp 0 0 0 c.args.lengths.now c.args.regions.now c.args.codes.now c.args.numbers.now)) ((buffers c.args.vertices.now c.args.polygons.now c.args.neighbours.now c.args.polyregions.now c.args.polycodes.now c.args.flags.now c.args.work.now)) (p 0 0 0) (a ∙ sym (v_is ((job_of c.args.nvp 0 0 0 c.args.lengths.now c.args.regions.now c.args.codes.now c.args.numbers.now)))) n) ∙ n in
     let j = (job_of c.args.nvp c.args.w c.args.h c.args.border c.args.lengths.now c.args.regions.now c.args.codes.now c.args.numbers.now) in (
@@ -62,31 +62,31 @@ build-reply-requires c =
       }),
     )
 
-pub shape_of-vertices-in-Passed : goal.shape_of-vertices-in-Passed
-shape_of-vertices-in-Passed c = c.build-reply.auto.vertices
+pub shape_of-vertices : goal.shape_of-vertices
+shape_of-vertices c = c.build-reply.auto.vertices
 
-pub shape_of-polygons-in-Passed : goal.shape_of-polygons-in-Passed
-shape_of-polygons-in-Passed c = c.build-reply.auto.polygons
+pub shape_of-polygons : goal.shape_of-polygons
+shape_of-polygons c = c.build-reply.auto.polygons
 
-pub shape_of-neighbours-in-Passed : goal.shape_of-neighbours-in-Passed
-shape_of-neighbours-in-Passed c = c.build-reply.auto.neighbours
+pub shape_of-neighbours : goal.shape_of-neighbours
+shape_of-neighbours c = c.build-reply.auto.neighbours
 
-pub shape_of-polyregions-in-Passed : goal.shape_of-polyregions-in-Passed
-shape_of-polyregions-in-Passed c = c.build-reply.auto.polyregions
+pub shape_of-polyregions : goal.shape_of-polyregions
+shape_of-polyregions c = c.build-reply.auto.polyregions
 
-pub shape_of-polycodes-in-Passed : goal.shape_of-polycodes-in-Passed
-shape_of-polycodes-in-Passed c = c.build-reply.auto.polycodes
+pub shape_of-polycodes : goal.shape_of-polycodes
+shape_of-polycodes c = c.build-reply.auto.polycodes
 
-pub shape_of-flags-in-Passed : goal.shape_of-flags-in-Passed
-shape_of-flags-in-Passed c = c.build-reply.auto.flags
+pub shape_of-flags : goal.shape_of-flags
+shape_of-flags c = c.build-reply.auto.flags
 
-pub returns-in-Passed : goal.returns-in-Passed
+pub returns : goal.returns
 unfolding lengths_of
-returns-in-Passed c =
+returns c =
     let j = (job_of c.args.nvp c.args.w c.args.h c.args.border c.args.lengths.now c.args.regions.now c.args.codes.now c.args.numbers.now) in
     let a = c.count_v-v.ensures ∙ sym (v_is j) in
     let t = c.count_t-t.ensures ∙ sym (t_is j) in
-    let p = is_passed (check j (lengths_of ((buffers c.args.vertices.now c.args.polygons.now c.args.neighbours.now c.args.polyregions.now c.args.polycodes.now c.args.flags.now c.args.work.now)))) (sym (c.check.ensures c.args.w c.args.h c.args.border) ∙ c.in-Passed.is) in
+    let p = is_passed (check j (lengths_of ((buffers c.args.vertices.now c.args.polygons.now c.args.neighbours.now c.args.polyregions.now c.args.polycodes.now c.args.flags.now c.args.work.now)))) (sym (c.check.ensures c.args.w c.args.h c.args.border) ∙ c.in_default.is) in
     let n = c.work_words-n.ensures in
     let f = work_fits j ((buffers c.args.vertices.now c.args.polygons.now c.args.neighbours.now c.args.polyregions.now c.args.polycodes.now c.args.flags.now c.args.work.now)) p a n in
     let m = length-take-le _ c.args.work.now f in

@@ -11,15 +11,15 @@ goes-requires c = (stands_wider c.loop-i.invariant.stands, c.loop-i-test.true)
 pub remove_vertex-requires : goal.remove_vertex-requires
 remove_vertex-requires c = may_go c.requires c.loop-i.invariant c.loop-i-test.true c.goes.ensures c.if-goes.true
 
-pub loop-i-preserved-in-Gone : goal.loop-i-preserved-in-Gone
-loop-i-preserved-in-Gone c =
+pub loop-i-preserved-then-goes : goal.loop-i-preserved-then-goes
+loop-i-preserved-then-goes c =
     let e = c.remove_vertex.ensures in
-    left_gone c.requires c.loop-i.invariant c.loop-i-test.true c.goes.ensures c.if-goes.true e.words (rw c.in-Gone.is at e.answer)
+    left_gone c.requires c.loop-i.invariant c.loop-i-test.true c.goes.ensures c.if-goes.true e.words (rw c.in-Some.is at e.answer)
 
-pub returns-in-NoEars : goal.returns-in-NoEars
-returns-in-NoEars c =
+pub returns-in_default : goal.returns-in_default
+returns-in_default c =
     let e = c.remove_vertex.ensures in
-    let both = left_stuck c.requires c.loop-i.invariant c.loop-i-test.true c.goes.ensures c.if-goes.true e.words (rw c.in-NoEars.is at e.answer) in
+    let both = left_stuck c.requires c.loop-i.invariant c.loop-i-test.true c.goes.ensures c.if-goes.true e.words (rw c.in_default.is at e.answer) in
     record { answer = both.0; words = both.1 }
 
 pub loop-i-preserved : goal.loop-i-preserved

@@ -26,32 +26,32 @@ pub overflow_add-np : goal.overflow_add-np
 overflow_add-np c =
     let o = c.open_hole-h.ensures in
     let e = c.fill_hole.ensures in
-    let h = filled_few c.requires o e.words (rw c.in-Polygons.is at e.answer) in
+    let h = filled_few c.requires o e.words (rw c.in-Some.is at e.answer) in
     search rules
 
 pub tidy_up-requires : goal.tidy_up-requires
 tidy_up-requires c =
     let e = c.fill_hole.ensures in
-    tidy_ready c.requires c.open_hole-h.ensures e.words (rw c.in-Polygons.is at e.answer) c.greater-far.ensures
+    tidy_ready c.requires c.open_hole-h.ensures e.words (rw c.in-Some.is at e.answer) c.max-far.ensures
 
-pub returns-in-Polygons : goal.returns-in-Polygons
-returns-in-Polygons c =
+pub returns-in-Some : goal.returns-in-Some
+returns-in-Some c =
     let r = c.requires in
     let o = c.open_hole-h.ensures in
     let e = c.fill_hole.ensures in
-    let a = rw c.in-Polygons.is at e.answer in
-    let g = c.greater-far.ensures in
+    let a = rw c.in-Some.is at e.answer in
+    let g = c.max-far.ensures in
     record { answer = filled_answer r o e.words a g; words = filled_words r o e.words a g c.tidy_up.ensures }
 
 pub wipe_mesh-requires : goal.wipe_mesh-requires
 wipe_mesh-requires c =
     let e = c.fill_hole.ensures in
-    empty_fits c.requires c.open_hole-h.ensures e.words (rw c.in-NoEars.is at e.answer)
+    empty_fits c.requires c.open_hole-h.ensures e.words (rw c.in-None.is at e.answer)
 
-pub returns-in-NoEars : goal.returns-in-NoEars
-returns-in-NoEars c =
+pub returns-in-None : goal.returns-in-None
+returns-in-None c =
     let r = c.requires in
     let o = c.open_hole-h.ensures in
     let e = c.fill_hole.ensures in
-    let a = rw c.in-NoEars.is at e.answer in
+    let a = rw c.in-None.is at e.answer in
     record { answer = empty_answer r o e.words a; words = empty_words r o e.words a c.wipe_mesh.ensures }

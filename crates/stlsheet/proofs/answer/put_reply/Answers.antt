@@ -14,19 +14,19 @@ pub put_carved-requires : goal.put_carved-requires
 put_carved-requires c =
     let a = c.args in
     built_stands a.x a.reply a.vertices.now a.polygons.now a.neighbours.now
-    c.in-Built.n c.in-Built.k c.in-Built.is c.requires
+    c.in-Ok.built.polygons c.in-Ok.built.vertices c.in-Ok.is c.requires
 
-pub returns-in-Refused : goal.returns-in-Refused
-returns-in-Refused c =
+pub returns-in-Err : goal.returns-in-Err
+returns-in-Err c =
     let a = c.args in
     printed_as c.put_refused.ensures
     (refused_is a.x a.reply a.vertices.now a.polygons.now a.neighbours.now
-    c.in-Refused.r c.refusal_number.result c.refusal_second.result
-    c.in-Refused.is c.refusal_number.ensures c.refusal_second.ensures)
+    c.in-Err.r c.refusal_number.result c.refusal_second.result
+    c.in-Err.is c.refusal_number.ensures c.refusal_second.ensures)
 
-pub returns-in-Built : goal.returns-in-Built
-returns-in-Built c =
+pub returns-in-Ok : goal.returns-in-Ok
+returns-in-Ok c =
     let a = c.args in
     printed_as c.put_carved.ensures
     (built_is a.x a.reply a.vertices.now a.polygons.now a.neighbours.now
-    c.in-Built.n c.in-Built.k (length a.out.now) c.in-Built.is c.requires.room)
+    c.in-Ok.built.polygons c.in-Ok.built.vertices (length a.out.now) c.in-Ok.is c.requires.room)
