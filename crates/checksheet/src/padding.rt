@@ -4,7 +4,7 @@ ghost use Rattle.mem.specs.Slice.{splice};
 ghost use Rattle.rules.specs.Exits.{padded};
 ghost use Rattle.checksheet.specs.Reading.{RowReady};
 
-use words::fill::{fill, fill16};
+use words::fill::fill;
 
 // What stands where there is no corner, and no link.
 const NONE: u16 = 65535;
@@ -19,7 +19,7 @@ pub fn put_row16(row: &mut [u16], at: usize, n: usize, values: &[u64])
         row[at + i] = values[i] as u16;
         i += 1;
     }
-    fill16(row, at + i, n - i, NONE);
+    fill(row, at + i, n - i, NONE);
 }
 
 // The same of numbers of 32 bits.

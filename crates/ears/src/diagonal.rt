@@ -12,7 +12,7 @@ use crate::index::index_of;
 use plane::bounds::{Bounds, are_apart, bounds_of};
 use plane::measure::point_at;
 use plane::ring::{next, prev};
-use plane::segment::{intersect, intersect_prop, vequal};
+use plane::segment::{intersect, intersect_prop};
 use plane::turn::{is_left, is_left_on};
 use rules::{Kind, Point};
 
@@ -47,10 +47,11 @@ fn at_ends(i: usize, j: usize, k: usize, l: usize) -> bool
 }
 
 // Whether the side c d has an end where the diagonal a b has one.
+#[tactic(auto, unfolding(rules::specs::Diagonal::shares_end, rules::specs::Plane::vequal))]
 fn shares_end(a: Point, b: Point, c: Point, d: Point) -> bool
     ensures { result ≡ shares_end a b c d }
 {
-    vequal(a, c) | vequal(b, c) | vequal(a, d) | vequal(b, d)
+    a == c || b == c || a == d || b == d
 }
 
 // Whether the side c d crosses or touches the diagonal a b; the loose one lets touching pass.

@@ -7,7 +7,7 @@ ghost use Rattle.mend.specs.Call.{lent_of, WriteReady, Written, MendReady, Ended
 use crate::contours::{count_lost, mend_all};
 use checks::counts::{JOB_STRIDE, MOST_CONTOURS, count_all};
 use rules::MendReply;
-use words::fill::{fill, fill16};
+use words::fill::fill;
 use words::places::link_at;
 
 // More vertices than this have numbers that no word of the list holds.
@@ -58,7 +58,7 @@ fn write(
 {
     let all = mend_all(lengths, numbers, list, work);
     let at = all.kept * JOB_STRIDE;
-    fill16(numbers, at, numbers.len() - at, 0);
+    fill(numbers, at, numbers.len() - at, 0);
     fill(work, 0, most, 0);
     MendReply::Mended(all.lost as u64, all.kept as u64)
 }

@@ -3,7 +3,5 @@
 pub mod Sizes
 -- the doubled area of a list, turn by turn
 pub mod Areas
--- a return from the middle of a chain of tests
-pub mod Chains
 -- the number that thousandths are divided by
 pub mod Thousand

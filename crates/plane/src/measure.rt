@@ -1,33 +1,24 @@
 // Squared lengths, and the doubled area of a list of points.
 ghost use Rattle.std.specs.Prelude.{◌≡◌, ◌+◌, ◌*◌, ◌<◌, ◌≤◌, length};
-ghost use Rattle.rules.specs.Lists.{apart};
 ghost use Rattle.rules.specs.Plane.{InGrid, squared, area};
 ghost use Rattle.plane.specs.Points.{point_of, points_in, GridWords};
 
 use crate::turn::area2;
 use rules::Point;
 
-// The distance of two numbers.
-fn gap(a: u16, b: u16) -> u32
-    requires { (a ≤ 32767) × (b ≤ 32767) }
-    ensures { (result ≡ apart a b) × (result ≤ 32767) }
-{
-    let x = a as u32;
-    let y = b as u32;
-    if x < y { y - x } else { x - y }
-}
-
 // The squared distance of two points.
+#[tactic(auto, unfolding(rules::specs::Plane::squared, rules::specs::Lists::apart))]
 pub fn length_squared(a: Point, b: Point) -> u32
     requires { InGrid a × InGrid b }
     ensures { result ≡ squared a b }
 {
-    let x = gap(a.x, b.x);
-    let z = gap(a.z, b.z);
+    let x = u32::from(a.x.abs_diff(b.x));
+    let z = u32::from(a.z.abs_diff(b.z));
     x * x + z * z
 }
 
 // The point at place k of a slice of words x, z, x, z, ..
+#[tactic(auto, using(crate::proofs::Sizes::on_grid, crate::proofs::Sizes::word_fits), unfolding(crate::specs::Points::point_of))]
 pub fn point_at(pts: &[u32], k: usize) -> Point
     requires { GridWords pts.now × (k * 2 + 1 < length pts.now) }
     ensures { (result ≡ point_of pts.now k) × InGrid result }
@@ -49,10 +40,8 @@ pub fn doubled_area(pts: &[u32]) -> i64
     }
     let first = point_at(pts, 0);
     let mut sum = 0i64;
-    let mut k = 1;
-    while k + 1 < n {
-        sum += area2(first, point_at(pts, k), point_at(pts, k + 1)) as i64;
-        k += 1;
+    for k in 1..n - 1 {
+        sum += i64::from(area2(first, point_at(pts, k), point_at(pts, k + 1)));
     }
     sum
 }

@@ -6,16 +6,17 @@ ghost use Rattle.rules.specs.Plane as Plane;
 use rules::Point;
 
 // Twice the signed area of the triangle a, b, c.
+#[tactic(auto, using(crate::proofs::Sizes::gap_needs, crate::proofs::Sizes::product_needs, crate::proofs::Sizes::turn_needs))]
 pub fn area2(a: Point, b: Point, c: Point) -> i32
     requires { InGrid a × InGrid b × InGrid c }
     ensures { result ≡ D a b c }
 {
-    let ax = a.x as i32;
-    let az = a.z as i32;
-    let bx = b.x as i32;
-    let bz = b.z as i32;
-    let cx = c.x as i32;
-    let cz = c.z as i32;
+    let ax = i32::from(a.x);
+    let az = i32::from(a.z);
+    let bx = i32::from(b.x);
+    let bz = i32::from(b.z);
+    let cx = i32::from(c.x);
+    let cz = i32::from(c.z);
     (bx - ax) * (cz - az) - (cx - ax) * (bz - az)
 }
 

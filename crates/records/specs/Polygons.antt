@@ -2,12 +2,13 @@
 -- Key: `polygons_are`: the polygons read from records are those that the records were made of; `put_are`: one of them written anew.
 use Rattle.std.specs.Prelude.{◌≡◌, List, [], ◌∷◌, ◌++◌, ℕ, zero, suc, ◌+◌, ◌-◌, ◌*◌, ◌≤◌, ◌<◌, length, drop, get_or, set, replicate}
 use Rattle.std.proofs.Math.Path.{refl, ap}
-use Rattle.std.proofs.Common.{sym, ◌∙◌, append_assoc, arith, add-zero, zero-add, length-append, length-take, length-drop, take_all, take_at, take-suc-set, length-take-le, get_or-take}
+use Rattle.std.proofs.Common.{sym, ◌∙◌, arith, add-zero, zero-add, length-append, length-take, length-drop, take_all, take_at, take-suc-set, length-take-le, get_or-take}
 use Rattle.std.proofs.Math.Nat.{sub-zero, zero-sub, suc-sub-suc}
 use Rattle.std.proofs.Math.ListN.{take, length-set}
 use Rattle.std.proofs.lemmas.List.{length-replicate, take-append-le}
-use Rattle.mem.specs.Slice.{view, splice, splice_over, splice_eq, length_view, view_view, get_or_view, splice_append, write_step, set_each, stored_each}
-use Rattle.mem.specs.Tab.{blocks, get_or_blocks, length_blocks, Filled, filled_all, tab_view, tab_take, take_tab}
+use borrow.Rule.Slice.PartMut.{put_mid, mid_of}
+use Rattle.mem.specs.Slice.{view, splice, length_splice, splice_over, splice_eq, length_view, view_view, get_or_view, splice_append, set_each, stored_each}
+use Rattle.mem.specs.Tab.{blocks, get_or_blocks, length_blocks, take_tab}
 use Rattle.mem.specs.Packed.{Every, every_at, every_set, length_packed, packed_append, packed_put, unpacked}
 use Rattle.rules.specs.Lists.{next, swap_remove}
 use Rattle.rules.specs.Links.{none}
@@ -19,6 +20,7 @@ use Rattle.laws.proofs.Lists.{all_at}
 use Rattle.laws.specs.Merge.{Below}
 use Rattle.records.specs.declared.polygon.Poly.{Poly}
 use Rattle.records.specs.Layout.{polygon_size, most_corners, spare_words, polygon_in, polygons_at, polygon_words, polygon_records, Small, Tidy}
+use Rattle.records.specs.Stored.{stored}
 use Rattle.records.specs.Values.{to_poly, corners_of, polygon_of, poly_words, Loaded, On, SwapReady}
 
 -- ---- the words of a polygon's corners
@@ -167,33 +169,38 @@ module _ (w : List ℕ) (at : ℕ) (fits : at + polygon_size ≤ length w) where
       cs : take (get_or (view w at polygon_size) 0 0) (drop 3 (view w at polygon_size)) ≡ view w (at + 3) n
       cs = rw (first, e) (view_view w at polygon_size 3 n (omega arith))
 
-  pub loaded_made : {n i : ℕ} {c : List ℕ} → n ≡ get_or w at 0 → get_or w at 0 ≤ most_corners
-      → Filled (replicate most_corners none) 0 (λ k. get_or w (at + 3 + k) 0) n c i → n ≤ i
-      → Loaded (polygon_in (view w at polygon_size)) (record { corners = c; n = n; region = get_or w (at + 1) 0; code = get_or w (at + 2) 0 })
-  loaded_made {n} {i} {c} e h f l =
-      let cs : List ℕ = view w (at + 3) n in
-      let long : length cs ≡ n = length_view w (at + 3) n (omega arith) in
-      let made : c ≡ padded most_corners cs = filled_all f l ∙ rw (tab_view w (at + 3) n 0 (omega arith)) (padded_splice most_corners cs (omega arith)) in
+  pub loaded_made : {n : ℕ} {cs : List ℕ} → n ≡ get_or w at 0 → get_or w at 0 ≤ most_corners → cs ≡ take (at + 3 + n - (at + 3)) (drop (at + 3) w)
+      → Loaded (polygon_in (view w at polygon_size)) (record { corners = cs ++ drop n (replicate most_corners none); n = n; region = get_or w (at + 1) 0; code = get_or w (at + 2) 0 })
+  unfolding padded
+  loaded_made {n} {cs} e h f =
+      let k : at + 3 + n - (at + 3) ≡ n = omega arith in
+      let same : cs ≡ view w (at + 3) n = rw k at f in
+      let long : length (view w (at + 3) n) ≡ n = length_view w (at + 3) n (omega arith) in
+      let made : cs ++ drop n (replicate most_corners none) ≡ padded most_corners (view w (at + 3) n) =
+      rw (same, drop_replicate n most_corners, long) in
       rw (in_view n (get_or w (at + 1) 0) (get_or w (at + 2) 0) (sym e) (omega arith) refl refl)
       (record { is = poly_eq _ _ made (sym long) refl refl; count = sym long; most = omega arith })
 
-pub stored_all : (w : List ℕ) (at : ℕ) (p : Poly) {v : List ℕ} {i : ℕ} → length p.corners ≡ most_corners
-    → Filled (set (set (set w at p.n) (at + 1) p.region) (at + 2) p.code) (at + 3) (λ k. get_or p.corners k 0) most_corners v i → most_corners ≤ i
-    → set (set (set v (at + 15) 0) (at + 15 + 1) 0) (at + 15 + 2) 0 ≡ splice w at (poly_words p)
+-- the three first words, the corners and the words behind them are written
+pub stored_poly : (w : List ℕ) (at : ℕ) (p : Poly) {v cs zs : List ℕ} → length p.corners ≡ most_corners → cs ≡ p.corners
+    → v ≡ put_mid (at + 3) (at + 15 - (at + 3)) (set (set (set w at p.n) (at + 1) p.region) (at + 2) p.code) cs
+    → zs ≡ replicate (length (mid_of (at + 15) (at + 18 - (at + 15)) v)) 0 → at + polygon_size ≤ length w
+    → put_mid (at + 15) (at + 18 - (at + 15)) v zs ≡ splice w at (poly_words p)
 unfolding poly_words set_each
-stored_all w at p {v} {i} l f h =
-    let xs : List ℕ = p.n ∷ p.region ∷ p.code ∷ [] in
-    let e : set (set (set w at p.n) (at + 1) p.region) (at + 2) p.code ≡ splice w at xs =
-    stored_each w at p.n (p.region ∷ p.code ∷ []) in
-    let g : v ≡ splice w at (xs ++ p.corners) =
-    filled_all f h ∙ rw (e, tab_take p.corners most_corners 0 (omega arith), take_all most_corners p.corners (omega arith)) (splice_append w at xs p.corners) in
-    let a : at + 15 + 1 ≡ at + 16 = omega arith in
-    let b : at + 15 + 2 ≡ at + 17 = omega arith in
-    rw (a, b)
-    (ap (λ (u : List ℕ). set (set u (at + 16) 0) (at + 17) 0) (write_step w at 15 (xs ++ p.corners) 0 g (omega arith))
-    ∙ ap (λ (u : List ℕ). set u (at + 17) 0) (write_step w at 16 ((xs ++ p.corners) ++ (0 ∷ [])) 0 refl (simp length-append (omega arith)))
-    ∙ write_step w at 17 (((xs ++ p.corners) ++ (0 ∷ [])) ++ (0 ∷ [])) 0 refl (simp length-append (omega arith))
-    ∙ ap (splice w at) (ap (λ (u : List ℕ). u ++ (0 ∷ [])) (append_assoc (xs ++ p.corners) (0 ∷ []) (0 ∷ [])) ∙ append_assoc (xs ++ p.corners) (0 ∷ 0 ∷ []) (0 ∷ [])))
+stored_poly w at p {v} {cs} {zs} l q is z h =
+    let first : List ℕ = p.n ∷ p.region ∷ p.code ∷ [] in
+    let front : List ℕ = first ++ p.corners in
+    let u : List ℕ = set (set (set w at p.n) (at + 1) p.region) (at + 2) p.code in
+    let stands : u ≡ splice w at first = stored_each w at p.n (p.region ∷ p.code ∷ []) in
+    let written : v ≡ splice w at front =
+    is ∙ stored u (at + 3) most_corners p.corners (omega arith) q l (rw (stands, length_splice w at first) (omega arith))
+    ∙ rw stands (splice_append w at first p.corners) in
+    let k : at + 18 - (at + 15) ≡ spare_words = omega arith in
+    let room : at + 15 + spare_words ≤ length v = rw (written, length_splice w at front) (omega arith) in
+    let zeros : zs ≡ replicate spare_words 0 = rw (k, length_view v (at + 15) spare_words room) at z in
+    let long : length front ≡ 15 = omega (arith, l) in
+    stored v (at + 15) spare_words (replicate spare_words 0) k zeros refl room
+    ∙ rw written (rw long at (splice_append w at front (replicate spare_words 0)))
 
 -- ---- `swap_remove`: the last takes the place of the one that goes, and a blank one that of the last
 

@@ -29,10 +29,5 @@ pub fn store_edge(work: &mut [u32], at: usize, e: Edge)
     requires { at + edge_size ≤ length work.old }
     ensures { work.new ≡ splice work.old at (edge_words e) }
 {
-    work[at] = e.low;
-    work[at + 1] = e.high;
-    work[at + 2] = e.poly;
-    work[at + 3] = e.side;
-    work[at + 4] = e.other;
-    work[at + 5] = e.at;
+    work[at..at + EDGE_SIZE].copy_from_slice(&[e.low, e.high, e.poly, e.side, e.other, e.at]);
 }

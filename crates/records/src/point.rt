@@ -26,7 +26,5 @@ pub fn store_point(work: &mut [u32], at: usize, c: ChainPoint)
     requires { at + point_size ≤ length work.old }
     ensures { work.new ≡ splice work.old at (point_words c) }
 {
-    work[at] = c.vertex;
-    work[at + 1] = c.region;
-    work[at + 2] = c.code;
+    work[at..at + POINT_SIZE].copy_from_slice(&[c.vertex, c.region, c.code]);
 }

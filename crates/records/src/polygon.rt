@@ -31,9 +31,9 @@ const SPARE_AT: usize = 15;
 pub const NONE: u32 = 65535;
 
 // A polygon by value: the first n of its corners count, the others are 65,535.
-#[derive(Clone, Copy)]
+#[derive(Clone, Copy, Debug, PartialEq, Eq)]
 pub struct Poly {
-    pub corners: [u32; 12],
+    pub corners: [u32; MOST_CORNERS],
     pub n: usize,
     pub region: u32,
     pub code: u32,
@@ -45,13 +45,11 @@ pub fn load_poly(work: &[u32], at: usize) -> Poly
     ensures { Loaded (polygon_in (view work.now at polygon_size)) result }
 {
     let n = work[at] as usize;
-    let mut c = [NONE; 12];
-    for i in 0..n {
-        c[i] = work[at + CORNERS_AT + i];
-    }
+    let mut corners = [NONE; MOST_CORNERS];
+    corners[..n].copy_from_slice(&work[at + CORNERS_AT..at + CORNERS_AT + n]);
     Poly {
-        corners: c,
-        n: n,
+        corners,
+        n,
         region: work[at + 1],
         code: work[at + 2],
     }
@@ -65,12 +63,8 @@ pub fn store_poly(work: &mut [u32], at: usize, p: Poly)
     work[at] = p.n as u32;
     work[at + 1] = p.region;
     work[at + 2] = p.code;
-    for i in 0..MOST_CORNERS {
-        work[at + CORNERS_AT + i] = p.corners[i];
-    }
-    work[at + SPARE_AT] = 0;
-    work[at + SPARE_AT + 1] = 0;
-    work[at + SPARE_AT + 2] = 0;
+    work[at + CORNERS_AT..at + SPARE_AT].copy_from_slice(&p.corners);
+    work[at + SPARE_AT..at + POLYGON_SIZE].fill(0);
 }
 
 // Polygon i of the np at o.
@@ -118,7 +112,7 @@ fn blank() -> Poly
     ensures { (result ≡ to_poly no_polygon) × (result.n ≤ most_corners) }
 {
     Poly {
-        corners: [NONE; 12],
+        corners: [NONE; MOST_CORNERS],
         n: 0,
         region: 0,
         code: 0,

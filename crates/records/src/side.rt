@@ -27,8 +27,5 @@ pub fn store_side(work: &mut [u32], at: usize, s: Side)
     requires { at + side_size ≤ length work.old }
     ensures { work.new ≡ splice work.old at (side_words s) }
 {
-    work[at] = s.start;
-    work[at + 1] = s.end;
-    work[at + 2] = s.region;
-    work[at + 3] = s.code;
+    work[at..at + SIDE_SIZE].copy_from_slice(&[s.start, s.end, s.region, s.code]);
 }

@@ -17,11 +17,8 @@ pub fn store_vertex(work: &mut [u32], at: usize, v: Vertex)
     requires { at + vertex_size ≤ length work.old }
     ensures { work.new ≡ splice work.old at (vertex_words v 0) }
 {
-    work[at] = v.x as u32;
-    work[at + 1] = v.y as u32;
-    work[at + 2] = v.z as u32;
-    work[at + 3] = 0;
-    work[at + 4] = 0;
+    let words = [u32::from(v.x), u32::from(v.y), u32::from(v.z), 0, 0];
+    work[at..at + VERTEX_SIZE].copy_from_slice(&words);
 }
 
 // Where vertex k of the nv at vo stands.

@@ -2,7 +2,7 @@
 #![tactic(auto)]
 
 // A place on the plane.
-#[derive(Clone, Copy)]
+#[derive(Clone, Copy, Debug, PartialEq, Eq)]
 pub struct Point {
     pub x: u16,
     pub z: u16,

@@ -2,9 +2,8 @@
 -- highest-numbered match of all; and the bucket as the code computes it. Assumes nothing.
 use Rattle.std.specs.Prelude.{Some, None}
 use Rattle.std.proofs.Common.{◌≡◌, ℕ, ◌+◌, ◌-◌, ◌*◌, ◌%◌, ◌^◌, ◌<◌, ◌≤◌, Bool, true, false, ◌&&◌, eqb, leb, ◌≢◌, List, length, get_or, sym, refl, ap}
-use Rattle.std.proofs.Common.{◌∙◌, le_refl, lt_of_le_of_lt, add-zero, le_of_lt, mul-le-mul_left, mul-lt-mul_of_pos_right, arith, pow_pos, pow-add}
+use Rattle.std.proofs.Common.{◌∙◌, le_refl, add-zero, arith}
 use Rattle.std.proofs.Common.{ne_eqb, eqb-true}
-use mathlib.Core.Path.{subst⁻¹}
 use lib.Bits.{bit_and, and_mask}
 use Rattle.ints.specs.Bools.{and_left, and_right}
 use Rattle.mem.specs.Slice.{view, get_or_view}
@@ -168,11 +167,6 @@ module _ (w : List ℕ) (t : Tables) (nv : ℕ) (s : Tabled w t nv) where
           (rw seen at (agreed_all height _ v a q))
 
 -- ---- the bucket as the code computes it
-
-pub product_below : (k : ℕ) {a b : ℕ} → a < 2 ^ k → b < 2 ^ k → a * b < 2 ^ (k + k)
-product_below k {a} {b} ha hb =
-    subst⁻¹ (λ (n : ℕ). a * b < n) (pow-add 2 k k)
-    (lt_of_le_of_lt (mul-le-mul_left a (le_of_lt hb)) (mul-lt-mul_of_pos_right ha (pow_pos k)))
 
 pub hash_made : (x z : ℕ) {a b s : ℕ} → a ≡ (0x8da6_b343 * x) % 2 ^ 32 → b ≡ (0xcb1a_b31f * z) % 2 ^ 32 → s ≡ (a + b) % 2 ^ 32
     → (bit_and s 4095 ≡ bucket x z) × (bit_and s 4095 < bucket_count)

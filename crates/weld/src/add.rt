@@ -27,12 +27,10 @@ pub fn add_vertex(work: &mut [u32], t: Tables, nv: usize, v: Vertex, height: u16
     ensures { Added height work.old work.new t nv v result }
 {
     match find_vertex(work, t, nv, v, height) {
-        Some(k) => {
-            return k;
-        }
+        Some(k) => k,
         None => {
             put_vertex(work, t, nv, v);
-            return nv;
+            nv
         }
     }
 }
@@ -44,7 +42,6 @@ fn mark_vertex(work: &mut [u32], t: Tables, nv: usize, k: usize, flag: u16)
 {
     if flag == 1 {
         work[t.vertices + k * VERTEX_SIZE + MARK_AT] = 1;
-        return;
     }
 }
 

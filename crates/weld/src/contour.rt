@@ -11,6 +11,7 @@ use rules::Vertex;
 const JOB_STRIDE: usize = 4;
 
 // Vertex k of a job.
+#[tactic(auto, unfolding(rules::specs::Job::vertex_at))]
 fn vertex_at(numbers: &[u16], k: usize) -> Vertex
     requires { k * job_stride + job_stride ≤ length numbers.now }
     ensures { result ≡ vertex_at numbers.now k }
@@ -24,6 +25,7 @@ fn vertex_at(numbers: &[u16], k: usize) -> Vertex
 }
 
 // Its flag.
+#[tactic(auto, unfolding(rules::specs::Job::flag_at))]
 fn flag_at(numbers: &[u16], k: usize) -> u16
     requires { k * job_stride + job_stride ≤ length numbers.now }
     ensures { result ≡ flag_at numbers.now k }

@@ -1,7 +1,6 @@
 // The vertex that is the same as a given one, looked for in its bucket.
 ghost use Rattle.std.specs.Prelude.{◌≡◌, ◌+◌, ◌<◌, ◌≤◌, length};
 ghost use Rattle.mem.specs.Slice.{view};
-ghost use Rattle.rules.specs.Lists.{apart};
 ghost use Rattle.rules.specs.Weld.{highest_below};
 ghost use Rattle.records.specs.Layout.{vertex_size, vertex_in, vertices_at};
 ghost use Rattle.weld.specs.Tables.{agree, Tabled};
@@ -12,18 +11,11 @@ use rules::Vertex;
 use words::places::link_at;
 
 // Where the weld's words stand: 4,096 buckets, the vertices' records, and for each vertex the next one in its bucket.
-#[derive(Clone, Copy)]
+#[derive(Clone, Copy, Debug, PartialEq, Eq)]
 pub struct Tables {
     pub buckets: usize,
     pub vertices: usize,
     pub nexts: usize,
-}
-
-// The distance of two numbers.
-fn gap(a: u32, b: u32) -> u32
-    ensures { result ≡ apart a b }
-{
-    if a < b { b - a } else { a - b }
 }
 
 // Whether the vertex whose words start at `at` agrees with v in coordinate c: x, y up to the height, and z.
@@ -31,13 +23,11 @@ fn agrees(work: &[u32], at: usize, v: Vertex, height: u16, c: usize) -> bool
     requires { at + vertex_size ≤ length work.now }
     ensures { result ≡ agree height (vertex_in (view work.now at vertex_size)) v c }
 {
-    if c == 0 {
-        return work[at] == v.x as u32;
+    match c {
+        0 => work[at] == u32::from(v.x),
+        1 => work[at + 1].abs_diff(u32::from(v.y)) <= u32::from(height),
+        _ => work[at + 2] == u32::from(v.z),
     }
-    if c == 1 {
-        return gap(work[at + 1], v.y as u32) <= height as u32;
-    }
-    work[at + 2] == v.z as u32
 }
 
 // The highest-numbered of the nv vertices that is the same as v. Those of its bucket are looked at from the newest on, and
@@ -52,11 +42,8 @@ pub fn find_vertex(work: &[u32], t: Tables, nv: usize, v: Vertex, height: u16) -
         let k = link - 1;
         let at = t.vertices + k * VERTEX_SIZE;
         link = link_at(work, t.nexts + k);
-        let mut c = 0;
-        while c < 3 {
-            if agrees(work, at, v, height, c) {
-                c += 1;
-            } else {
+        for c in 0..3 {
+            if !agrees(work, at, v, height, c) {
                 continue 'search;
             }
         }

@@ -7,7 +7,5 @@ pub fn move_down(part: &mut [u32], from: usize, n: usize)
     requires { from + n ≤ length part.old }
     ensures { part.new ≡ splice part.old 0 (view part.old from n) }
 {
-    for i in 0..n {
-        part[i] = part[from + i];
-    }
+    part.copy_within(from..from + n, 0);
 }

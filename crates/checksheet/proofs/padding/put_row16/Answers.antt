@@ -16,4 +16,4 @@ loop-i-preserved c = filled_more c.loop-i.invariant _ _ refl refl c.loop-i-test.
 pub returns : goal.returns
 returns c =
     padded_put c.args.values.now c.args.row.now c.args.at c.args.n c.loop-i.i c.loop-i.invariant c.loop-i-test.false
-    c.fill16.ensures
+    c.fill.ensures

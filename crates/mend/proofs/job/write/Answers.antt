@@ -4,4 +4,4 @@ use Rattle.mend.proofs.job.write.Goals as goal
 
 pub returns : goal.returns
 returns c =
-    written c.requires c.mend_all-all.ensures c.fill16.ensures c.fill.ensures
+    written c.requires c.mend_all-all.ensures c.fill.ensures c.fill-2.ensures

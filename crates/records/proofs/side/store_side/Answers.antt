@@ -1,23 +1,9 @@
-use lib.ListN.{length-set}
-use mathlib.Core.List.{[], ◌∷◌}
-use native.Mathlib.Omega.{arith}
+-- `records::side::store_side` meets its contract: its words are copied to their place. Assumes nothing.
+use Rattle.std.proofs.Common.{refl, arith}
 use Rattle.records.specs.Layout.{side_words}
-use Rattle.mem.specs.Slice.{set_each, stored_each}
+use Rattle.records.specs.Stored.{stored}
 use Rattle.records.proofs.side.store_side.Goals as goal
 
--- src/side.rt:32:5
-pub bounds-work-at-2 : goal.bounds-work-at-2
-bounds-work-at-2 c = simp length-set (omega arith)
-
--- src/side.rt:33:5
-pub bounds-work-at-3 : goal.bounds-work-at-3
-bounds-work-at-3 c = simp length-set (omega arith)
-
--- src/side.rt:34:5
-pub bounds-work-at-4 : goal.bounds-work-at-4
-bounds-work-at-4 c = simp length-set (omega arith)
-
--- src/side.rt:27:1
 pub returns : goal.returns
-unfolding set_each side_words
-returns c = stored_each _ _ _ (_ ∷ _ ∷ _ ∷ [])
+unfolding side_words
+returns c = stored c.args.work.now c.args.at _ _ (omega arith) c.copy_from_slice.ensures.after refl c.requires

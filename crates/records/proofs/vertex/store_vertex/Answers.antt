@@ -1,24 +1,11 @@
-use lib.ListN.{length-set}
-use native.Mathlib.Omega.{arith}
-use Rattle.records.specs.Vertices.{stored_vertex}
+-- `records::vertex::store_vertex` meets its contract: its words are copied to their place. Assumes nothing.
+use Rattle.std.proofs.Common.{refl, arith}
+use Rattle.records.specs.Layout.{vertex_words}
+use Rattle.records.specs.Stored.{stored}
 use Rattle.records.proofs.vertex.store_vertex.Goals as goal
 
--- src/vertex.rt:23:5
-pub bounds-work-at-2 : goal.bounds-work-at-2
-bounds-work-at-2 c = simp length-set (omega arith)
-
--- src/vertex.rt:24:5
-pub bounds-work-at-3 : goal.bounds-work-at-3
-bounds-work-at-3 c = simp length-set (omega arith)
-
--- src/vertex.rt:25:5
-pub bounds-work-at-4 : goal.bounds-work-at-4
-bounds-work-at-4 c = simp length-set (omega arith)
-
--- src/vertex.rt:26:5
-pub bounds-work-at-5 : goal.bounds-work-at-5
-bounds-work-at-5 c = simp length-set (omega arith)
-
--- src/vertex.rt:18:1
 pub returns : goal.returns
-returns c = stored_vertex _ _ _ 0
+unfolding vertex_words
+returns c =
+    rw (← c.from.ensures, ← c.from-2.ensures, ← c.from-3.ensures)
+    (stored c.args.work.now c.args.at _ _ (omega arith) c.copy_from_slice.ensures.after refl c.requires)

@@ -6,5 +6,5 @@ pub returns-then-flag-eq1 : goal.returns-then-flag-eq1
 returns-then-flag-eq1 c = flag_set c.args.work.now c.args.t c.args.nv c.requires.0 c.args.k c.args.flag c.requires.1 c.if-flag-eq1.true
 
 -- src/add.rt:46:1
-pub returns : goal.returns
-returns c = flag_clear c.args.work.now c.args.t c.args.nv c.requires.0 c.args.k c.args.flag c.if-flag-eq1.false
+pub returns-else-flag-eq1 : goal.returns-else-flag-eq1
+returns-else-flag-eq1 c = flag_clear c.args.work.now c.args.t c.args.nv c.requires.0 c.args.k c.args.flag c.if-flag-eq1.false

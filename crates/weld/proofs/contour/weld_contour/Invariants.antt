@@ -1,4 +1,3 @@
-use Rattle.std.proofs.Common.{◌-◌}
 use Rattle.weld.proofs.Contours.{Going}
 use Rattle.weld.proofs.contour.weld_contour.Given as goal
 

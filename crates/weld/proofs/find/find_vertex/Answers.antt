@@ -49,7 +49,7 @@ loop-c-init c =
 
 -- src/find.rt:64:9
 pub loop-c-preserved : goal.loop-c-preserved
-loop-c-preserved c = (agreed_more _ _ _ c.loop-c.invariant.0 c.loop-c-test.true (sym c.agrees.ensures ∙ c.if-agrees.true), c.loop-c.invariant.1)
+loop-c-preserved c = (agreed_more _ _ _ c.loop-c.invariant.0 c.loop-c-test.true (sym c.agrees.ensures ∙ c.if-not-agrees.false), c.loop-c.invariant.1)
 
 -- src/find.rt:59:5
 pub search-smaller : goal.search-smaller
@@ -60,7 +60,7 @@ search-smaller c =
 pub search-preserved : goal.search-preserved
 search-preserved c = (
   step_on c.args.work.now c.args.t c.args.nv c.requires c.args.height c.args.v c.search.invariant.0 c.search-test.true
-      c.loop-c.invariant.0 c.link_at-link-in-search.ensures c.loop-c-test.true (sym c.agrees.ensures ∙ c.if-agrees.false),
+      c.loop-c.invariant.0 c.link_at-link-in-search.ensures c.loop-c-test.true (sym c.agrees.ensures ∙ c.if-not-agrees.true),
   c.search.invariant.1,
 )
 

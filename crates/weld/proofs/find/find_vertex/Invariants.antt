@@ -1,5 +1,5 @@
 use Rattle.std.specs.Prelude.{None}
-use Rattle.std.proofs.Common.{◌≡◌, ◌+◌, ◌-◌, ◌≤◌, length}
+use Rattle.std.proofs.Common.{◌≡◌, ◌+◌, ◌≤◌, length}
 use Rattle.mem.specs.Slice.{view}
 use Rattle.records.specs.Layout.{vertex_size, vertex_in, vertices_at}
 use Rattle.weld.proofs.Walks.{Agreed, Walk}
@@ -7,9 +7,6 @@ use Rattle.weld.proofs.find.find_vertex.Given as goal
 
 abbrev pub invariant-loop-c : goal.invariant-loop-c
 invariant-loop-c l = Agreed l.height (vertex_in (view l.work l.at vertex_size)) l.v l.c × (l.at + vertex_size ≤ length l.work)
-
-abbrev pub decreases-loop-c : goal.decreases-loop-c
-decreases-loop-c l = 3 - l.c
 
 abbrev pub invariant-search : goal.invariant-search
 invariant-search l = Walk l.height (vertices_at l.work l.t.vertices l.nv) l.v l.nv l.link × (l.found ≡ None)

@@ -1,6 +1,7 @@
+-- `weld::hash::compute_vertex_hash` meets its contract: the products and their sum are those of the definition. Assumes nothing.
+use Rattle.std.proofs.Common.{refl}
 use Rattle.weld.proofs.Walks.{hash_made}
 use Rattle.weld.proofs.hash.compute_vertex_hash.Goals as goal
 
--- src/hash.rt:15:1
 pub returns : goal.returns
-returns c = hash_made _ _ c.wrapping_mul-a.ensures c.wrapping_mul-b.ensures c.wrapping_add_u32.ensures.value
+returns c = rw (c.from-a.ensures, c.from-b.ensures) (hash_made c.args.x c.args.z refl refl refl)

@@ -1,17 +1,21 @@
-use mathlib.Core.Path.{refl, ap, ◌∙◌}
-use Rattle.mem.specs.Slice.{splice}
-use Rattle.mem.specs.Tab.{filled_none, filled_more, filled_all, tab_const}
+use Rattle.std.proofs.Common.{◌≡◌, ◌∙◌, ℕ, ◌+◌, ◌-◌, ◌≤◌, refl, ap, length, replicate, arith}
+use Rattle.mem.specs.Slice.{splice, lent_back, length_view}
+use Rattle.mem.specs.Tab.{filled_none, filled_more, filled_whole, tab_const}
 use Rattle.words.proofs.fill.fill.Goals as goal
 
--- src/fill.rt:13:5
-pub loop-i-init : goal.loop-i-init
-loop-i-init c = filled_none _ _ _ _
+pub loop-item-init : goal.loop-item-init
+loop-item-init g c = filled_none _ _ _ _
 
--- src/fill.rt:13:5
-pub loop-i-preserved : goal.loop-i-preserved
-loop-i-preserved c = filled_more c.loop-i.invariant _ _ refl refl c.loop-i-test.true
+pub loop-item-preserved : goal.loop-item-preserved
+loop-item-preserved g c = filled_more c.loop-item.invariant _ _ (omega arith) refl c.loop-item-test.true
 
--- src/fill.rt:8:1
 pub returns : goal.returns
-returns c =
-    filled_all c.loop-i.invariant c.loop-i-test.false ∙ ap (splice c.args.work.now c.args.at) (tab_const c.args.n c.args.x)
+returns g c =
+    let w = c.args.work.now in
+    let at = c.args.at in
+    let k : ℕ = at + c.args.n - at in
+    let e : k ≡ c.args.n = omega arith in
+    let within : at + k ≤ length w = omega (arith, c.requires) in
+    let filled = c.loop-item.invariant in
+    lent_back w at k c.loop-item.item-items (filled.long ∙ length_view w at k within) within
+    ∙ ap (splice w at) (filled_whole filled c.loop-item-test.false ∙ tab_const _ _ ∙ ap (λ j. replicate j c.args.x) (length_view w at k within ∙ e))

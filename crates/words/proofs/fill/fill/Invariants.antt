@@ -1,7 +1,6 @@
--- `words::fill::fill` meets its contract: each word from `at` on is x. Assumes nothing.
-use Prim.Native.Nat.{◌-◌}
+-- `words::fill::fill` meets its contract: each element from `at` on is x. Assumes nothing.
 use Rattle.mem.specs.Tab.{Filled}
 use Rattle.words.proofs.fill.fill.Given as goal
 
-abbrev pub invariant-loop-i : goal.invariant-loop-i
-invariant-loop-i l = Filled l.initial.work l.at (λ k. l.x) l.n l.work l.i
+abbrev pub invariant-loop-item : goal.invariant-loop-item
+invariant-loop-item g l = Filled l.initial.item-items 0 (λ k. l.x) l.item-index-end l.item-items l.item-index
