@@ -30,10 +30,10 @@ pub fn store_mesh(
     requires { StoreReady at nvp (buffers vertices.old polygons.old neighbours.old regions.old codes.old flags.old work.now) }
     ensures { StoredTo at nvp (buffers vertices.old polygons.old neighbours.old regions.old codes.old flags.old work.now) (buffers vertices.new polygons.new neighbours.new regions.new codes.new flags.new work.now) }
 {
-    copy_vertices(work, at.vo, at.nv, vertices);
-    copy_corners(work, at.o, at.np, nvp, polygons);
-    copy_links(work, at.o, at.np, at.lo, nvp, neighbours);
-    copy_regions(work, at.o, at.np, regions);
-    copy_codes(work, at.o, at.np, codes);
+    copy_vertices(work, at, vertices);
+    copy_corners(work, at, nvp, polygons);
+    copy_links(work, at, nvp, neighbours);
+    copy_regions(work, at, regions);
+    copy_codes(work, at, codes);
     clear_flags(flags, at.np);
 }
