@@ -16,9 +16,7 @@ fn keep_rows(work: &mut [u32], vo: usize, nv: usize, o: usize, np: usize, nvp: u
     requires { RowsReady work.old vo nv o np nvp ro }
     ensures { RowsKept work.old work.new vo nv o np nvp ro }
 {
-    let mut r = np;
-    while 0 < r {
-        r -= 1;
+    for r in (0..np).rev() {
         keep_row(work, vo, nv, o, np, nvp, ro, r);
     }
 }
@@ -140,9 +138,7 @@ fn renew_rows(
     requires { AllRenewable work.old vo nv o np nvp ro a b }
     ensures { RowsKept work.old work.new vo nv o np nvp ro }
 {
-    let mut r = np;
-    while 0 < r {
-        r -= 1;
+    for r in (0..np).rev() {
         renew_row(work, vo, nv, o, np, nvp, ro, a, b, r);
     }
 }

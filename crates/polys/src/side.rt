@@ -56,14 +56,9 @@ pub fn shared_side(work: &[u32], at: usize, bt: usize) -> Option<(usize, usize)>
     requires { Stands work.now at × Stands work.now bt }
     ensures { result ≡ shared_side (corners_from work.now at) (corners_from work.now bt) }
 {
-    let mut i = count_from(work, at);
-    while 0 < i {
-        i -= 1;
-        match shared_by(work, at, bt, i) {
-            Some((k, j)) => {
-                return Some((k, j));
-            }
-            None => {}
+    for i in (0..count_from(work, at)).rev() {
+        if let Some(sides) = shared_by(work, at, bt, i) {
+            return Some(sides);
         }
     }
     None

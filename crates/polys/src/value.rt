@@ -88,8 +88,8 @@ fn pair_of(
     if may_join(work, vo, nv, at, bt, i, j) {
         return Pair {
             length: side_length(work, vo, nv, at, i),
-            a: a,
-            b: b,
+            a,
+            b,
             ea: i,
             eb: j,
         };
