@@ -1,6 +1,7 @@
 // R4: the polygons of one contour, or of one hole, are merged.
 #![tactic(auto)]
 
+pub mod field; // where the vertices, the polygons and their rows stand
 pub mod side; // the side that two polygons share
 pub mod value; // whether two polygons can be joined, and how good it would be
 pub mod best; // the best pair, from all pairs
