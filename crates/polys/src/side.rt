@@ -23,10 +23,7 @@ pub fn is_opposite(a: u32, b: u32, c: u32, d: u32) -> bool
 fn is_equal(a: u32, b: u32, c: u32, d: u32) -> bool
     ensures { result ≡ ((eqb a c && eqb b d) || (eqb a d && eqb b c)) }
 {
-    if is_along(a, b, c, d) {
-        return true;
-    }
-    is_opposite(a, b, c, d)
+    is_along(a, b, c, d) | is_opposite(a, b, c, d)
 }
 
 // Side i of the first, and the first side of the second that is equal to it.
