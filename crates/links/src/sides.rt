@@ -82,14 +82,8 @@ fn join_side(work: &mut [u32], t: EdgeTables, nv: usize, ne: usize, i: usize, p:
     let a = corner(p, j);
     let b = side_end(p, j);
     if b < a {
-        match find_free(work, t, nv, ne, b, a) {
-            Some(k) => {
-                join_edge(work, t, nv, ne, k, i as u32, j as u32);
-                return;
-            }
-            None => {
-                return;
-            }
+        if let Some(k) = find_free(work, t, nv, ne, b, a) {
+            join_edge(work, t, nv, ne, k, i as u32, j as u32);
         }
     }
 }

@@ -1,5 +1,4 @@
 -- `links::portals::mark_polygon` meets its contract: the word of each side is written once, from what stood there before. Assumes nothing.
-use Prim.Native.Nat.{◌-◌}
 use Rattle.mem.specs.Slice.{view}
 use Rattle.mem.specs.Tab.{Filled}
 use Rattle.rules.specs.Portals.{portal_at}

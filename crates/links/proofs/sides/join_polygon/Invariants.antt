@@ -1,5 +1,4 @@
 -- `links::sides::join_polygon` meets its contract: the sides that are left, from the records so far, give all. Assumes nothing.
-use Prim.Native.Nat.{◌-◌}
 use lib.ListN.{length}
 use Rattle.mem.specs.Loops.{each}
 use Rattle.records.specs.Layout.{edges_at}

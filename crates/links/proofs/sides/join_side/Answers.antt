@@ -24,13 +24,13 @@ returns-in-Some c =
     c.join_edge.ensures
 
 -- src/sides.rt:118:17
-pub returns-in-None : goal.returns-in-None
-returns-in-None c =
+pub returns-in_default : goal.returns-in_default
+returns-in_default c =
     let long_p : length c.args.p.corners ≡ most_corners = search rules in
-    unjoined c.requires.0 (long_p) c.args.j c.requires.1 c.corner-a.ensures c.side_end-b.ensures c.if-b-a.true (rw c.in-None.is at c.find_free.ensures)
+    unjoined c.requires.0 (long_p) c.args.j c.requires.1 c.corner-a.ensures c.side_end-b.ensures c.if-b-a.true (rw c.in_default.is at c.find_free.ensures)
 
 -- src/sides.rt:97:1
-pub returns : goal.returns
-returns c =
+pub returns-else-b-a : goal.returns-else-b-a
+returns-else-b-a c =
     let long_p : length c.args.p.corners ≡ most_corners = search rules in
     passed c.requires.0 (long_p) c.args.j c.requires.1 c.corner-a.ensures c.side_end-b.ensures c.if-b-a.false

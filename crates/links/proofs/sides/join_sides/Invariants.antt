@@ -1,5 +1,4 @@
 -- `links::sides::join_sides` meets its contract: the polygons that are left, from the records so far, give all. Assumes nothing.
-use Prim.Native.Nat.{◌-◌}
 use Rattle.mem.specs.Loops.{each}
 use Rattle.records.specs.Layout.{edges_at, polygons_at}
 use Rattle.links.proofs.Rounds.{Going}
