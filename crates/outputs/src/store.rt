@@ -2,7 +2,7 @@
 ghost use Rattle.outputs.specs.Ready.{buffers, StoreReady, StoredTo};
 
 use crate::rows::{copy_corners, copy_links};
-use crate::tags::{clear_flags, copy_codes, copy_regions};
+use crate::tags::{clear_flags, copy_tags};
 use crate::vertices::copy_vertices;
 
 // Where the mesh stands in the work buffer: nv vertices at vo, np polygons at o, and their links at lo.
@@ -33,7 +33,6 @@ pub fn store_mesh(
     copy_vertices(work, at, vertices);
     copy_corners(work, at, nvp, polygons);
     copy_links(work, at, nvp, neighbours);
-    copy_regions(work, at, regions);
-    copy_codes(work, at, codes);
+    copy_tags(work, at, regions, codes);
     clear_flags(flags, at.np);
 }

@@ -7,23 +7,16 @@ ghost use Rattle.outputs.specs.Ready.{RegionsReady, CodesReady};
 use crate::store::Places;
 use records::polygon::POLYGON_SIZE;
 
-// The polygons' regions go to the beginning of out.
-pub fn copy_regions(work: &[u32], at: Places, out: &mut [u16])
-    requires { RegionsReady work.now at.o at.np out.old }
-    ensures { out.new ≡ splice out.old 0 (map (λ p. p.region) (polygons_at work.now at.o at.np)) }
+// The polygons' regions and area codes go to the beginning of two buffers.
+pub fn copy_tags(work: &[u32], at: Places, regions: &mut [u16], codes: &mut [u8])
+    requires { RegionsReady work.now at.o at.np regions.old × CodesReady work.now at.o at.np codes.old }
+    ensures regions { regions.new ≡ splice regions.old 0 (map (λ p. p.region) (polygons_at work.now at.o at.np)) }
+    ensures codes { codes.new ≡ splice codes.old 0 (map (λ p. p.code) (polygons_at work.now at.o at.np)) }
 {
     for i in 0..at.np {
-        out[i] = work[at.o + i * POLYGON_SIZE + 1] as u16;
-    }
-}
-
-// The polygons' area codes go to the beginning of out.
-pub fn copy_codes(work: &[u32], at: Places, out: &mut [u8])
-    requires { CodesReady work.now at.o at.np out.old }
-    ensures { out.new ≡ splice out.old 0 (map (λ p. p.code) (polygons_at work.now at.o at.np)) }
-{
-    for i in 0..at.np {
-        out[i] = work[at.o + i * POLYGON_SIZE + 2] as u8;
+        let from = at.o + i * POLYGON_SIZE;
+        regions[i] = work[from + 1] as u16;
+        codes[i] = work[from + 2] as u8;
     }
 }
 
