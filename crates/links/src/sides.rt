@@ -12,51 +12,6 @@ use crate::edges::{EdgeTables, find_free, join_edge, put_edge};
 use records::polygon::{Poly, corner, load_at, side_end};
 use rules::Edge;
 
-// Side j of polygon i, whose value is p, is recorded if it runs from a lower to a higher vertex. The result says how many
-// records there are then.
-fn record_side(
-    work: &mut [u32],
-    t: EdgeTables,
-    nv: usize,
-    ne: usize,
-    i: usize,
-    p: Poly,
-    j: usize,
-) -> usize
-    requires { InHand work.old t nv ne i p × Room work.old t nv (ne + 1) × On p j }
-    ensures { Rewritten work.old work.new t nv ne (record_of (corners_of p) i j (edges_at work.old t.edges ne)) 1 result }
-{
-    let a = corner(p, j);
-    let b = side_end(p, j);
-    if a < b {
-        let e = Edge {
-            low: a,
-            high: b,
-            poly: i as u32,
-            side: j as u32,
-            other: i as u32,
-            at: 0,
-        };
-        put_edge(work, t, nv, ne, e);
-        return ne + 1;
-    }
-    ne
-}
-
-// Side j of polygon i, whose value is p, is joined to the newest free record if it runs from a higher to a lower vertex.
-fn join_side(work: &mut [u32], t: EdgeTables, nv: usize, ne: usize, i: usize, p: Poly, j: usize)
-    requires { InHand work.old t nv ne i p × On p j }
-    ensures { Rewritten work.old work.new t nv ne (join_of (corners_of p) i j (edges_at work.old t.edges ne)) 0 ne }
-{
-    let a = corner(p, j);
-    let b = side_end(p, j);
-    if b < a {
-        if let Some(k) = find_free(work, t, nv, ne, b, a) {
-            join_edge(work, t, nv, ne, k, i as u32, j as u32);
-        }
-    }
-}
-
 // What is done with a side of a polygon.
 trait Step {
     // the records after side j of polygon i, whose corners are given
@@ -98,7 +53,21 @@ impl Step for Recording {
         p: Poly,
         j: usize,
     ) -> usize {
-        record_side(work, t, nv, ne, i, p, j)
+        let a = corner(p, j);
+        let b = side_end(p, j);
+        if a < b {
+            let e = Edge {
+                low: a,
+                high: b,
+                poly: i as u32,
+                side: j as u32,
+                other: i as u32,
+                at: 0,
+            };
+            put_edge(work, t, nv, ne, e);
+            return ne + 1;
+        }
+        ne
     }
 
     ghost adds = { λ m n. refl };
@@ -121,7 +90,13 @@ impl Step for Joining {
         p: Poly,
         j: usize,
     ) -> usize {
-        join_side(work, t, nv, ne, i, p, j);
+        let a = corner(p, j);
+        let b = side_end(p, j);
+        if b < a {
+            if let Some(k) = find_free(work, t, nv, ne, b, a) {
+                join_edge(work, t, nv, ne, k, i as u32, j as u32);
+            }
+        }
         ne
     }
 

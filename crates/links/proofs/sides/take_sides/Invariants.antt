@@ -1,5 +1,5 @@
 -- `links::sides::take_sides` meets its contract: the polygons that are left, from the records so far, give all. Assumes nothing.
-use Prim.Native.Nat.{◌+◌, ◌-◌}
+use Prim.Native.Nat.{◌+◌}
 use lib.ListN.{drop}
 use Rattle.mem.specs.Loops.{each}
 use Rattle.records.specs.Layout.{edges_at, polygons_at}
