@@ -8,4 +8,5 @@ pub mod best; // the best pair, from all pairs
 mod stamp; // what tells polygons apart that share no side
 mod row; // the best pair of one polygon, kept
 mod rows; // the best pair, from the rows that are kept from join to join
+mod search; // how the best pair is found: from all pairs, or from the rows
 pub mod merge; // the join of a pair, and the merge of all

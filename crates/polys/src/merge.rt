@@ -11,7 +11,7 @@ ghost use Rattle.polys.specs.Rows.{wiped, RowsIf, MergeRoom, MergedOver};
 
 use crate::field::Field;
 use crate::row::ROW_SIZE;
-use crate::rows::{best_if, keep_if, renew_if};
+use crate::search::{AllPairs, KeptRows, Search};
 use records::polygon::{NONE, Poly, load_at, store_at, swap_remove};
 use rules::Pair;
 use words::fill::fill;
@@ -67,22 +67,33 @@ pub fn join_pair(work: &mut [u32], f: Field, m: Pair)
     swap_remove(work, f.o, f.np, m.b);
 }
 
-// The polygons are merged as far as they can be, with their rows kept or without. The result says how many are left.
-fn merge_pairs(work: &mut [u32], f: Field, kept: bool) -> usize
-    requires { RowsIf work.old f kept × Tidy work.old f.o f.np × (3 < f.nvp) }
+// The polygons are merged as far as they can be, the best pair being found by S. The result says how many are left.
+fn merge_pairs<S: Search>(work: &mut [u32], f: Field) -> usize
+    requires { RowsIf work.old f S.kept × Tidy work.old f.o f.np × (3 < f.nvp) }
     ensures { MergedTo (wiped work.old f.ro f.np) (wiped work.new f.ro f.np) f.vo f.nv f.o f.np f.nvp result }
 {
     let mut n = f.np;
     loop {
         let g = Field { np: n, ..f };
-        let m = best_if(work, g, kept);
+        let m = S::best(work, g);
         if m.length == 0 {
             return n;
         }
         join_pair(work, g, m);
         n -= 1;
-        renew_if(work, Field { np: n, ..f }, kept, m.a, m.b);
+        S::renew(work, Field { np: n, ..f }, m.a, m.b);
     }
+}
+
+// The same from the beginning, with zeros left in the room for rows.
+fn merge_by<S: Search>(work: &mut [u32], f: Field) -> usize
+    requires { MergeRoom work.old f.vo f.nv f.o f.np f.nvp f.ro × (3 < f.nvp) }
+    ensures { MergedOver work.old work.new f.vo f.nv f.o f.np f.nvp f.ro result }
+{
+    S::begin(work, f);
+    let n = merge_pairs::<S>(work, f);
+    fill(work, f.ro, f.np * ROW_SIZE, 0);
+    n
 }
 
 // The np polygons at o are merged as far as they can be, with zeros left at ro, where there is room for their rows. The result
@@ -111,9 +122,9 @@ pub fn merge_polys(
         nvp,
         ro,
     };
-    let kept = FEW < np;
-    keep_if(work, f, kept);
-    let n = merge_pairs(work, f, kept);
-    fill(work, ro, np * ROW_SIZE, 0);
-    n
+    if FEW < np {
+        merge_by::<KeptRows>(work, f)
+    } else {
+        merge_by::<AllPairs>(work, f)
+    }
 }

@@ -4,16 +4,16 @@ ghost use Rattle.mem.specs.Slice.{splice};
 ghost use Rattle.rules.specs.Merge.{best_pair};
 ghost use Rattle.laws.specs.Rows.{is_moved, is_rival, is_reached, is_stale};
 ghost use Rattle.polys.specs.Fields.{vertices_in, polygons_in};
-ghost use Rattle.polys.specs.Rows.{row_size, row_record, RowsReadyIn, KeptFrom, Stamped, Renewable, AllRenewable, RowsKept, RowsIf, RenewIf, KeptIf};
+ghost use Rattle.polys.specs.Rows.{row_size, row_record, RowsReadyIn, KeptFrom, Stamped, Renewable, AllRenewable, RowsKept};
 
-use crate::best::{best_pair, greater};
+use crate::best::greater;
 use crate::field::Field;
 use crate::row::{keep_row, row_at, stamp_at, stamped_value};
 use crate::value::no_pair;
 use rules::Pair;
 
 // All rows are made.
-fn keep_rows(work: &mut [u32], f: Field)
+pub fn keep_rows(work: &mut [u32], f: Field)
     requires { RowsReadyIn work.old f }
     ensures { RowsKept work.old work.new f }
 {
@@ -23,7 +23,7 @@ fn keep_rows(work: &mut [u32], f: Field)
 }
 
 // The best pair of all, from the rows.
-fn best_kept(work: &[u32], f: Field) -> Pair
+pub fn best_kept(work: &[u32], f: Field) -> Pair
     requires { KeptFrom work.now f 0 }
     ensures { result ≡ best_pair (vertices_in work.now f) f.nvp (polygons_in work.now f) }
 {
@@ -90,42 +90,11 @@ fn renew_row(work: &mut [u32], f: Field, a: usize, b: usize, r: usize)
 }
 
 // All rows after a join of a and b.
-fn renew_rows(work: &mut [u32], f: Field, a: usize, b: usize)
+pub fn renew_rows(work: &mut [u32], f: Field, a: usize, b: usize)
     requires { AllRenewable work.old f a b }
     ensures { RowsKept work.old work.new f }
 {
     for r in (0..f.np).rev() {
         renew_row(work, f, a, b, r);
-    }
-}
-
-// All rows are made, if rows are kept.
-pub fn keep_if(work: &mut [u32], f: Field, kept: bool)
-    requires { RowsReadyIn work.old f }
-    ensures { KeptIf work.old work.new f kept }
-{
-    if kept {
-        keep_rows(work, f);
-    }
-}
-
-// The best pair: from the rows if they are kept, from all pairs if not.
-pub fn best_if(work: &[u32], f: Field, kept: bool) -> Pair
-    requires { RowsIf work.now f kept }
-    ensures { result ≡ best_pair (vertices_in work.now f) f.nvp (polygons_in work.now f) }
-{
-    if kept {
-        return best_kept(work, f);
-    }
-    best_pair(work, f)
-}
-
-// The rows after a join of a and b, if they are kept.
-pub fn renew_if(work: &mut [u32], f: Field, kept: bool, a: usize, b: usize)
-    requires { RenewIf work.old f a b kept }
-    ensures { KeptIf work.old work.new f kept }
-{
-    if kept {
-        renew_rows(work, f, a, b);
     }
 }

@@ -3,7 +3,7 @@ use Rattle.polys.proofs.Rounds.{Going}
 use Rattle.polys.proofs.merge.merge_pairs.Given as goal
 
 abbrev pub invariant-loop-f : goal.invariant-loop-f
-invariant-loop-f l = Going l.initial.work l.f l.kept l.work l.n
+invariant-loop-f g l = Going l.initial.work l.f g.S.Search.kept l.work l.n
 
 abbrev pub decreases-loop-f : goal.decreases-loop-f
-decreases-loop-f l = l.n
+decreases-loop-f g l = l.n
