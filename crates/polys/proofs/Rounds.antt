@@ -1,7 +1,7 @@
 -- One join after the other, with the rows kept: with zeros in the place of the rows the buffer is what it would be without them, and the rows are those of
 -- the polygons that are left. Assumes nothing.
 use mathlib.Core.Path.{◌≡◌, refl, sym, ap, ◌∙◌}
-use mathlib.Core.Bool.{Bool, true, false, true≢false}
+use mathlib.Core.Bool.{Bool}
 use mathlib.Core.List.{List, [], ◌∷◌, ◌++◌}
 use Prim.Native.Nat.{ℕ, ◌+◌, ◌-◌, ◌*◌, ◌≤◌, ◌<◌}
 use native.Mathlib.Omega.{arith}
@@ -23,7 +23,7 @@ use Rattle.polys.specs.Ready.{MergeReady, JoinReady, MergedTo}
 use Rattle.laws.proofs.Rows.{after_join}
 use Rattle.polys.specs.declared.field.Field.{Field}
 use Rattle.polys.specs.Fields.{first}
-use Rattle.polys.specs.Rows.{row_size, wiped, RowsReady, RowsReadyIn, RowsKept, RowsIf, RenewIf, KeptIf, MergedOver}
+use Rattle.polys.specs.Rows.{row_size, wiped, RowsReady, RowsReadyIn, RowsIf, RenewIf, KeptIf, MergedOver}
 use Rattle.polys.proofs.Merges.{smalls, are, Joining, joining_begin, joining_none, joining_more, joining_end, ready_now, join_ready, some_left}
 use Rattle.polys.proofs.Keeps.{vertices_under, polygons_under, ready_under}
 
@@ -68,19 +68,6 @@ wiped_alike w v ro n np h e =
 wiped_size : (w : List ℕ) (ro np : ℕ) → length (wiped w ro np) ≡ length w
 unfolding wiped
 wiped_size w ro np = length_splice w ro (replicate (np * row_size) 0)
-
--- ---- whether rows are kept
-
--- where they are not, nothing is said of them
-pub kept_not : {w : List ℕ} {F : Field} {t : Bool} → RowsReadyIn w F → t ≡ false → KeptIf w w F t
-kept_not ready z = record { rows = record { rows = ready; kept = λ (y : _ ≡ true). absurd (true≢false (sym y ∙ z)) }; same = refl; still = λ y. refl }
-
-pub kept_all : {w v : List ℕ} {F : Field} {t : Bool} → RowsKept w v F → t ≡ true → KeptIf w v F t
-kept_all k z = record {
-  rows = record { rows = k.kept.rows; kept = λ y. k.kept };
-  same = k.same;
-  still = λ (y : _ ≡ false). absurd (true≢false (sym z ∙ y));
-}
 
 -- ---- the loop of `merge_pairs`
 
