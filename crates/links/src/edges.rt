@@ -49,17 +49,15 @@ pub fn find_free(
     requires { Edged work.now t nv ne × (low < nv) }
     ensures { result ≡ newest low high (edges_at work.now t.edges ne) }
 {
-    let mut found = None;
     let mut link = link_at(work, t.firsts + low as usize);
     while 0 < link {
         let k = link - 1;
         if is_free(load_edge(work, t.edges, ne, k), low, high) {
-            found = Some(k);
-            break;
+            return Some(k);
         }
         link = link_at(work, t.nexts + k);
     }
-    found
+    None
 }
 
 // Record k is joined to side j of polygon i.
