@@ -21,7 +21,7 @@ use Rattle.records.specs.Fixed.{edge_fixed, fixed_count}
 use Rattle.records.specs.declared.polygon.Poly.{Poly}
 use Rattle.links.specs.declared.edges.EdgeTables.{EdgeTables}
 use Rattle.links.specs.Tables.{edged, Room, Edged, Rewritten}
-use Rattle.links.specs.Ready.{record_of, join_of, corners_in, InHand, Sides, SidesRecorded, SidesJoined}
+use Rattle.links.specs.Ready.{record_of, join_of, each_of, corners_in, InHand, Sides, SidesRecorded, SidesJoined}
 use Rattle.links.proofs.Walks.{newest_in}
 use Rattle.links.specs.Counts.{corners_left}
 use Rattle.links.specs.Standing.{Holds, holds_of, less_room, same_room, length_edged, edges_now, standing_now, edged_again, edged_none, polygons_kept}
@@ -116,6 +116,14 @@ module _ (w₀ : List ℕ) (t : EdgeTables) (nv ne most : ℕ) (step : ℕ → L
         let e : g.es ≡ whole = doing_end g.doing h in
         record { is = rw (← e) g.stage.is; count = rw (← e) (sym g.stage.count); least = g.least; most = omega (arith, g.left) }
 
+-- a step of a round of n can add as many records as a step can
+pub less_after : (added : ℕ → ℕ) → ((m n : ℕ) → added (m + n) ≡ added m + added n) → {n : ℕ} (m k : ℕ) → m + k ≡ n → added m + added k ≤ added n
+less_after added adds {n} m k e = omega (arith, adds m k, ap added e)
+
+-- none was added
+pub none_more : {w u : List ℕ} {t : EdgeTables} {nv ne : ℕ} {es : List Edge} {r : ℕ} → Rewritten w u t nv ne es 0 r → Rewritten w u t nv ne es 0 ne
+none_more x = record { is = x.is; count = omega (arith, x.count, x.least, x.most); least = omega arith; most = omega arith }
+
 -- ---- one side in hand
 
 module _ {w : List ℕ} {t : EdgeTables} {nv ne i : ℕ} {p : Poly} (c : InHand w t nv ne i p) (l : length p.corners ≡ most_corners) (j : ℕ) (on : On p j) where
@@ -180,19 +188,12 @@ still_in_hand c s = record { now = s; inside = c.inside; number = c.number }
 
 -- ---- all polygons
 
--- R6's steps for the sides of polygon i
-unfoldable pub record_all : List Polygon → ℕ → List Edge → List Edge
-record_all ps i es = each (record_of (polygon_at ps i).corners i) 0 (length (polygon_at ps i).corners) es
-
-unfoldable pub join_all : List Polygon → ℕ → List Edge → List Edge
-join_all ps i es = each (join_of (polygon_at ps i).corners i) 0 (length (polygon_at ps i).corners) es
-
-pub records_all : (ps : List Polygon) (n : ℕ) (es : List Edge) → length ps ≡ n → each_side ps (record_side ps) es ≡ each (record_all ps) 0 n es
-unfolding record_all record_of each_side record_side
+pub records_all : (ps : List Polygon) (n : ℕ) (es : List Edge) → length ps ≡ n → each_side ps (record_side ps) es ≡ each (each_of record_of ps) 0 n es
+unfolding each_of record_of each_side record_side
 records_all ps n es e = rw (← e) refl
 
-pub joins_all : (ps : List Polygon) (n : ℕ) (es : List Edge) → length ps ≡ n → each_side ps (join_side ps) es ≡ each (join_all ps) 0 n es
-unfolding join_all join_of each_side join_side
+pub joins_all : (ps : List Polygon) (n : ℕ) (es : List Edge) → length ps ≡ n → each_side ps (join_side ps) es ≡ each (each_of join_of ps) 0 n es
+unfolding each_of join_of each_side join_side
 joins_all ps n es e = rw (← e) refl
 
 -- polygon i, where the buffer still holds the polygons that it held at the start
@@ -217,13 +218,10 @@ module _ {w₀ : List ℕ} {o np nv : ℕ} {t : EdgeTables} (sides : Sides w₀ 
     unfolding ps
     hand_here s = record { now = s; inside = rw corners_here (all_at sides.inside i no_polygon here); number = omega (arith, sides.few) }
 
-    pub record_here : (es : List Edge) → each (record_of (corners_of p) i) 0 (length (corners_of p)) es ≡ record_all (polygons_at w₀ o np) i es
-    unfolding record_all
-    record_here es = rw corners_here refl
-
-    pub join_here : (es : List Edge) → each (join_of (corners_of p) i) 0 (length (corners_of p)) es ≡ join_all (polygons_at w₀ o np) i es
-    unfolding join_all
-    join_here es = rw corners_here refl
+    pub made_here : (made : List ℕ → ℕ → ℕ → List Edge → List Edge) (es : List Edge)
+        → each (made (corners_of p) i) 0 (length (corners_of p)) es ≡ each_of made (polygons_at w₀ o np) i es
+    unfolding each_of
+    made_here made es = rw corners_here refl
 
     pub count_here : corners_in (drop (i + 1) (polygons_at w₀ o np)) + p.n ≡ corners_in (drop i (polygons_at w₀ o np))
     unfolding ps

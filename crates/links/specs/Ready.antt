@@ -1,6 +1,7 @@
 -- What the functions on polygons' sides and their links ask for, R6's steps for a polygon in hand, and the words of links. Definitions only.
 use Rattle.std.specs.Prelude.{◌≡◌, cond, List, [], ◌∷◌, ◌++◌, ℕ, ◌+◌, ◌*◌, ◌≤◌, ◌<◌, eqb, ltb, length, get_or, set}
 use Rattle.mem.specs.Slice.{view, splice}
+use Rattle.mem.specs.Loops.{each}
 use Rattle.mem.specs.Tab.{tab}
 use Rattle.mem.specs.Packed.{packed}
 use Rattle.rules.specs.Mesh.{Polygon, polygon_at, side_start, side_end}
@@ -28,6 +29,10 @@ join_of cs i j es =
     let a = side_start cs j in
     let b = side_end cs j in
     cond (ltb b a) (join_at i j es (newest b a es)) es
+
+-- a step for the corners in hand, for each side of polygon i
+unfoldable pub each_of : (List ℕ → ℕ → ℕ → List Edge → List Edge) → List Polygon → ℕ → List Edge → List Edge
+each_of made ps i es = each (made (polygon_at ps i).corners i) 0 (length (polygon_at ps i).corners) es
 
 -- how many corners the polygons have: there are never more records than that
 unfoldable pub corners_in : List Polygon → ℕ

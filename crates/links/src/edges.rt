@@ -38,21 +38,26 @@ fn is_free(e: Edge, low: u32, high: u32) -> bool
 
 // The newest of the ne records from low to high that is not yet joined. Those of its lower vertex are looked at from the
 // newest on.
-pub fn find_free(work: &[u32], t: EdgeTables, nv: usize, ne: usize, low: u32, high: u32) -> Option<usize>
+pub fn find_free(
+    work: &[u32],
+    t: EdgeTables,
+    nv: usize,
+    ne: usize,
+    low: u32,
+    high: u32,
+) -> Option<usize>
     requires { Edged work.now t nv ne × (low < nv) }
     ensures { result ≡ newest low high (edges_at work.now t.edges ne) }
 {
-    let mut found = None;
     let mut link = link_at(work, t.firsts + low as usize);
     while 0 < link {
         let k = link - 1;
         if is_free(load_edge(work, t.edges, ne, k), low, high) {
-            found = Some(k);
-            break;
+            return Some(k);
         }
         link = link_at(work, t.nexts + k);
     }
-    found
+    None
 }
 
 // Record k is joined to side j of polygon i.
@@ -61,13 +66,10 @@ pub fn join_edge(work: &mut [u32], t: EdgeTables, nv: usize, ne: usize, k: usize
     ensures { work.new ≡ edged work.old t nv (join_at i j (edges_at work.old t.edges ne) (Some k)) }
 {
     let e = load_edge(work, t.edges, ne, k);
-    let f = Edge {
-        low: e.low,
-        high: e.high,
-        poly: e.poly,
-        side: e.side,
+    let joined = Edge {
         other: i,
         at: j,
+        ..e
     };
-    store_edge(work, t.edges + k * EDGE_SIZE, f);
+    store_edge(work, t.edges + k * EDGE_SIZE, joined);
 }

@@ -13,6 +13,15 @@ use plane::ring::next;
 use records::polygon::{LINK_SIZE, NONE, Poly, corner, load_at, place_of};
 use rules::Point;
 
+// The grid, from 0 to w and from 0 to h, and the nv vertices on it, which stand at vo.
+#[derive(Clone, Copy)]
+struct Grid {
+    vo: usize,
+    nv: usize,
+    w: u16,
+    h: u16,
+}
+
 // The link of an open side from a to b: with both ends on x=0, z=h, x=w or z=0, tried so, it is 65,536 plus 0, 1, 2 or 3;
 // else it stays open.
 pub fn portal_of(w: u16, h: u16, a: Point, b: Point) -> u32
@@ -34,43 +43,34 @@ pub fn portal_of(w: u16, h: u16, a: Point, b: Point) -> u32
 }
 
 // The link of side j of p if it is open.
-fn side_portal(work: &[u32], vo: usize, nv: usize, p: Poly, j: usize, w: u16, h: u16) -> u32
-    requires { Placed work.now vo nv × All (Below nv) (corners_of p) × On p j }
-    ensures { result ≡ portal_of w h (place_of (vertices_at work.now vo nv) (side_start (corners_of p) j)) (place_of (vertices_at work.now vo nv) (side_end (corners_of p) j)) }
+fn side_portal(work: &[u32], g: Grid, p: Poly, j: usize) -> u32
+    requires { Placed work.now g.vo g.nv × All (Below g.nv) (corners_of p) × On p j }
+    ensures { result ≡ portal_of g.w g.h (place_of (vertices_at work.now g.vo g.nv) (side_start (corners_of p) j)) (place_of (vertices_at work.now g.vo g.nv) (side_end (corners_of p) j)) }
 {
-    let a = place_of(work, vo, nv, p, j);
-    let b = place_of(work, vo, nv, p, next(j, p.n));
-    portal_of(w, h, a, b)
+    let a = place_of(work, g.vo, g.nv, p, j);
+    let b = place_of(work, g.vo, g.nv, p, next(j, p.n));
+    portal_of(g.w, g.h, a, b)
 }
 
 // The link of side j of p, whose links stand at `at`: a portal if it is open and on the grid's edge, else what it was.
-fn portal_at(
-    work: &[u32],
-    vo: usize,
-    nv: usize,
-    p: Poly,
-    at: usize,
-    j: usize,
-    w: u16,
-    h: u16,
-) -> u32
-    requires { LinksInHand work.now vo nv p at × On p j }
-    ensures { result ≡ portal_at (vertices_at work.now vo nv) w h (corners_of p) (view work.now at p.n) j }
+fn portal_at(work: &[u32], g: Grid, p: Poly, at: usize, j: usize) -> u32
+    requires { LinksInHand work.now g.vo g.nv p at × On p j }
+    ensures { result ≡ portal_at (vertices_at work.now g.vo g.nv) g.w g.h (corners_of p) (view work.now at p.n) j }
 {
     let link = work[at + j];
     if link == NONE {
-        return side_portal(work, vo, nv, p, j, w, h);
+        return side_portal(work, g, p, j);
     }
     link
 }
 
 // The same for each side of p.
-fn mark_polygon(work: &mut [u32], vo: usize, nv: usize, p: Poly, at: usize, w: u16, h: u16)
-    requires { LinksInHand work.old vo nv p at }
-    ensures { work.new ≡ splice work.old at (portals_in (vertices_at work.old vo nv) w h (corners_of p) (view work.old at p.n)) }
+fn mark_polygon(work: &mut [u32], g: Grid, p: Poly, at: usize)
+    requires { LinksInHand work.old g.vo g.nv p at }
+    ensures { work.new ≡ splice work.old at (portals_in (vertices_at work.old g.vo g.nv) g.w g.h (corners_of p) (view work.old at p.n)) }
 {
     for j in 0..p.n {
-        work[at + j] = portal_at(work, vo, nv, p, at, j, w, h);
+        work[at + j] = portal_at(work, g, p, at, j);
     }
 }
 
@@ -92,8 +92,9 @@ pub fn mark_portals(
     if border == 0 {
         return;
     }
+    let g = Grid { vo, nv, w, h };
     for i in 0..np {
         let p = load_at(work, o, np, i);
-        mark_polygon(work, vo, nv, p, lo + i * LINK_SIZE, w, h);
+        mark_polygon(work, g, p, lo + i * LINK_SIZE);
     }
 }

@@ -8,6 +8,7 @@ ghost use Rattle.records.specs.Values.{polygon_of};
 ghost use Rattle.links.specs.Ready.{links_at};
 ghost use Rattle.outputs.specs.Ready.{RowReady, CornersReady, LinksReady};
 
+use crate::store::Places;
 use records::polygon::{LINK_SIZE, Poly, load_at};
 
 // The corners of p, and 65,535 behind them, n words in all, go to `to`.
@@ -20,13 +21,13 @@ fn put_corners(out: &mut [u16], to: usize, p: Poly, n: usize)
     }
 }
 
-// The corners of the np polygons at o go to the beginning of out.
-pub fn copy_corners(work: &[u32], o: usize, np: usize, nvp: usize, out: &mut [u16])
-    requires { CornersReady work.now o np nvp out.old }
-    ensures { out.new ≡ splice out.old 0 (packed (corner_words nvp) (polygons_at work.now o np)) }
+// The polygons' corners go to the beginning of out.
+pub fn copy_corners(work: &[u32], at: Places, nvp: usize, out: &mut [u16])
+    requires { CornersReady work.now at.o at.np nvp out.old }
+    ensures { out.new ≡ splice out.old 0 (packed (corner_words nvp) (polygons_at work.now at.o at.np)) }
 {
-    for i in 0..np {
-        let p = load_at(work, o, np, i);
+    for i in 0..at.np {
+        let p = load_at(work, at.o, at.np, i);
         put_corners(out, i * nvp, p, nvp);
     }
 }
@@ -36,17 +37,15 @@ fn put_links(work: &[u32], at: usize, n: usize, out: &mut [u32], to: usize)
     requires { (at + n ≤ length work.now) × (to + n ≤ length out.old) }
     ensures { out.new ≡ splice out.old to (view work.now at n) }
 {
-    for j in 0..n {
-        out[to + j] = work[at + j];
-    }
+    out[to..to + n].copy_from_slice(&work[at..at + n]);
 }
 
-// The links at lo of the np polygons at o go to the beginning of out.
-pub fn copy_links(work: &[u32], o: usize, np: usize, lo: usize, nvp: usize, out: &mut [u32])
-    requires { LinksReady work.now o np lo nvp out.old }
-    ensures { out.new ≡ splice out.old 0 (packed (padded nvp) (links_at work.now lo (polygons_at work.now o np))) }
+// The polygons' links go to the beginning of out.
+pub fn copy_links(work: &[u32], at: Places, nvp: usize, out: &mut [u32])
+    requires { LinksReady work.now at.o at.np at.lo nvp out.old }
+    ensures { out.new ≡ splice out.old 0 (packed (padded nvp) (links_at work.now at.lo (polygons_at work.now at.o at.np))) }
 {
-    for i in 0..np {
-        put_links(work, lo + i * LINK_SIZE, nvp, out, i * nvp);
+    for i in 0..at.np {
+        put_links(work, at.lo + i * LINK_SIZE, nvp, out, i * nvp);
     }
 }

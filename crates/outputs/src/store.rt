@@ -2,7 +2,7 @@
 ghost use Rattle.outputs.specs.Ready.{buffers, StoreReady, StoredTo};
 
 use crate::rows::{copy_corners, copy_links};
-use crate::tags::{clear_flags, copy_codes, copy_regions};
+use crate::tags::{clear_flags, copy_tags};
 use crate::vertices::copy_vertices;
 
 // Where the mesh stands in the work buffer: nv vertices at vo, np polygons at o, and their links at lo.
@@ -30,10 +30,9 @@ pub fn store_mesh(
     requires { StoreReady at nvp (buffers vertices.old polygons.old neighbours.old regions.old codes.old flags.old work.now) }
     ensures { StoredTo at nvp (buffers vertices.old polygons.old neighbours.old regions.old codes.old flags.old work.now) (buffers vertices.new polygons.new neighbours.new regions.new codes.new flags.new work.now) }
 {
-    copy_vertices(work, at.vo, at.nv, vertices);
-    copy_corners(work, at.o, at.np, nvp, polygons);
-    copy_links(work, at.o, at.np, at.lo, nvp, neighbours);
-    copy_regions(work, at.o, at.np, regions);
-    copy_codes(work, at.o, at.np, codes);
+    copy_vertices(work, at, vertices);
+    copy_corners(work, at, nvp, polygons);
+    copy_links(work, at, nvp, neighbours);
+    copy_tags(work, at, regions, codes);
     clear_flags(flags, at.np);
 }

@@ -4,25 +4,19 @@ ghost use Rattle.mem.specs.Slice.{splice};
 ghost use Rattle.records.specs.Layout.{polygons_at};
 ghost use Rattle.outputs.specs.Ready.{RegionsReady, CodesReady};
 
+use crate::store::Places;
 use records::polygon::POLYGON_SIZE;
 
-// The regions of the np polygons at o go to the beginning of out.
-pub fn copy_regions(work: &[u32], o: usize, np: usize, out: &mut [u16])
-    requires { RegionsReady work.now o np out.old }
-    ensures { out.new ≡ splice out.old 0 (map (λ p. p.region) (polygons_at work.now o np)) }
+// The polygons' regions and area codes go to the beginning of two buffers.
+pub fn copy_tags(work: &[u32], at: Places, regions: &mut [u16], codes: &mut [u8])
+    requires { RegionsReady work.now at.o at.np regions.old × CodesReady work.now at.o at.np codes.old }
+    ensures regions { regions.new ≡ splice regions.old 0 (map (λ p. p.region) (polygons_at work.now at.o at.np)) }
+    ensures codes { codes.new ≡ splice codes.old 0 (map (λ p. p.code) (polygons_at work.now at.o at.np)) }
 {
-    for i in 0..np {
-        out[i] = work[o + i * POLYGON_SIZE + 1] as u16;
-    }
-}
-
-// The area codes of the np polygons at o go to the beginning of out.
-pub fn copy_codes(work: &[u32], o: usize, np: usize, out: &mut [u8])
-    requires { CodesReady work.now o np out.old }
-    ensures { out.new ≡ splice out.old 0 (map (λ p. p.code) (polygons_at work.now o np)) }
-{
-    for i in 0..np {
-        out[i] = work[o + i * POLYGON_SIZE + 2] as u8;
+    for i in 0..at.np {
+        let from = at.o + i * POLYGON_SIZE;
+        regions[i] = work[from + 1] as u16;
+        codes[i] = work[from + 2] as u8;
     }
 }
 
@@ -31,7 +25,5 @@ pub fn clear_flags(out: &mut [u16], np: usize)
     requires { np ≤ length out.old }
     ensures { out.new ≡ splice out.old 0 (replicate np 0) }
 {
-    for k in 0..np {
-        out[k] = 0;
-    }
+    out[..np].fill(0);
 }

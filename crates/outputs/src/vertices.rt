@@ -6,19 +6,20 @@ ghost use Rattle.rules.specs.Exits.{vertex_words};
 ghost use Rattle.records.specs.Layout.{vertices_at};
 ghost use Rattle.outputs.specs.Ready.{VerticesReady};
 
+use crate::store::Places;
 use records::vertex::VERTEX_SIZE;
 use rules::VERTEX_STRIDE;
 
-// The nv vertices at vo go to the beginning of out.
-pub fn copy_vertices(work: &[u32], vo: usize, nv: usize, out: &mut [u16])
-    requires { VerticesReady work.now vo nv out.old }
-    ensures { out.new ≡ splice out.old 0 (packed vertex_words (vertices_at work.now vo nv)) }
+// The vertices go to the beginning of out.
+pub fn copy_vertices(work: &[u32], at: Places, out: &mut [u16])
+    requires { VerticesReady work.now at.vo at.nv out.old }
+    ensures { out.new ≡ splice out.old 0 (packed vertex_words (vertices_at work.now at.vo at.nv)) }
 {
-    for k in 0..nv {
-        let at = vo + k * VERTEX_SIZE;
+    for k in 0..at.nv {
+        let from = at.vo + k * VERTEX_SIZE;
         let to = k * VERTEX_STRIDE;
-        out[to] = work[at] as u16;
-        out[to + 1] = work[at + 1] as u16;
-        out[to + 2] = work[at + 2] as u16;
+        out[to] = work[from] as u16;
+        out[to + 1] = work[from + 1] as u16;
+        out[to + 2] = work[from + 2] as u16;
     }
 }

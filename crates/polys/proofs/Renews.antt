@@ -15,76 +15,77 @@ use Rattle.laws.proofs.Rows.{still, polygon_stays, row_stays}
 use Rattle.laws.specs.Stamps.{stamp_of}
 use Rattle.records.specs.Layout.{vertices_at, polygons_at}
 use Rattle.records.specs.Polygons.{length_polygons}
+use Rattle.polys.specs.declared.field.Field.{Field}
 use Rattle.polys.specs.Rows.{row_size, row_record, row_in, stamp_in, Stamped, Renewable, AllRenewable}
 use Rattle.polys.proofs.Keeps.{length_read, second_read, stamp_read, Keeping, kept_behind}
 
 -- ---- whether a pair reaches a row
 
-module _ {w : List ℕ} {vo nv o np nvp ro r s : ℕ} (k : Stamped w vo nv o np nvp ro r s) (q l : ℕ) where
-  pub reached_before : q ≤ r → is_reached (vertices_at w vo nv) nvp (polygons_at w o np) r q l ≡ false
+module _ {w : List ℕ} {F : Field} {r s : ℕ} (k : Stamped w F r s) (q l : ℕ) where
+  pub reached_before : q ≤ r → is_reached (vertices_at w F.vo F.nv) F.nvp (polygons_at w F.o F.np) r q l ≡ false
   unfolding is_reached
   reached_before h = rw (le-ltb r q h)
 
-  pub reached_past : r < q → np ≤ q → is_reached (vertices_at w vo nv) nvp (polygons_at w o np) r q l ≡ false
+  pub reached_past : r < q → F.np ≤ q → is_reached (vertices_at w F.vo F.nv) F.nvp (polygons_at w F.o F.np) r q l ≡ false
   unfolding is_reached
-  reached_past d h = rw (lt-ltb r q d, le-ltb q (length (polygons_at w o np)) (omega (arith, length_polygons w o np)))
+  reached_past d h = rw (lt-ltb r q d, le-ltb q (length (polygons_at w F.o F.np)) (omega (arith, length_polygons w F.o F.np)))
 
-  pub reached_if : {m : Pair} {t : Bool} → r < q → q < np → m ≡ merge_value (vertices_at w vo nv) nvp (polygons_at w o np) r q → t ≡ is_rival l m
-      → t ≡ is_reached (vertices_at w vo nv) nvp (polygons_at w o np) r q l
+  pub reached_if : {m : Pair} {t : Bool} → r < q → q < F.np → m ≡ merge_value (vertices_at w F.vo F.nv) F.nvp (polygons_at w F.o F.np) r q → t ≡ is_rival l m
+      → t ≡ is_reached (vertices_at w F.vo F.nv) F.nvp (polygons_at w F.o F.np) r q l
   unfolding is_reached
-  reached_if d h e f = f ∙ rw (e, lt-ltb r q d, lt-ltb q (length (polygons_at w o np)) (omega (arith, length_polygons w o np)))
+  reached_if d h e f = f ∙ rw (e, lt-ltb r q d, lt-ltb q (length (polygons_at w F.o F.np)) (omega (arith, length_polygons w F.o F.np)))
 
 -- ---- a row after a join
 
-module _ {w : List ℕ} {vo nv o np nvp ro a b r : ℕ} (g : Renewable w vo nv o np nvp ro a b r) where
-  long : length (polygons_at w o np) ≡ np
-  long = length_polygons w o np
+module _ {w : List ℕ} {F : Field} {a b r : ℕ} (g : Renewable w F a b r) where
+  long : length (polygons_at w F.o F.np) ≡ F.np
+  long = length_polygons w F.o F.np
 
   -- whether it is stale
-  module _ (m : Pair) {t : Bool} (e : t ≡ is_moved r m.b a b np) where
-    moved_is : is_moved r m.b a b (length (polygons_at w o np)) ≡ t
+  module _ (m : Pair) {t : Bool} (e : t ≡ is_moved r m.b a b F.np) where
+    moved_is : is_moved r m.b a b (length (polygons_at w F.o F.np)) ≡ t
     moved_is = ap (is_moved r m.b a b) long ∙ sym e
 
-    pub stale_moved : t ≡ true → true ≡ is_stale (vertices_at w vo nv) nvp (polygons_at w o np) a b r m.length m.b
+    pub stale_moved : t ≡ true → true ≡ is_stale (vertices_at w F.vo F.nv) F.nvp (polygons_at w F.o F.np) a b r m.length m.b
     unfolding is_stale
     stale_moved z = rw (moved_is, z) refl
 
-    pub stale_first : {u : Bool} → t ≡ false → u ≡ is_reached (vertices_at w vo nv) nvp (polygons_at w o np) r a m.length → u ≡ true
-        → true ≡ is_stale (vertices_at w vo nv) nvp (polygons_at w o np) a b r m.length m.b
+    pub stale_first : {u : Bool} → t ≡ false → u ≡ is_reached (vertices_at w F.vo F.nv) F.nvp (polygons_at w F.o F.np) r a m.length → u ≡ true
+        → true ≡ is_stale (vertices_at w F.vo F.nv) F.nvp (polygons_at w F.o F.np) a b r m.length m.b
     unfolding is_stale
     stale_first z f y = rw (moved_is, z, ← f, y) refl
 
-    pub stale_second : {u v : Bool} → t ≡ false → u ≡ is_reached (vertices_at w vo nv) nvp (polygons_at w o np) r a m.length → u ≡ false
-        → v ≡ is_reached (vertices_at w vo nv) nvp (polygons_at w o np) r b m.length
-        → v ≡ is_stale (vertices_at w vo nv) nvp (polygons_at w o np) a b r m.length m.b
+    pub stale_second : {u v : Bool} → t ≡ false → u ≡ is_reached (vertices_at w F.vo F.nv) F.nvp (polygons_at w F.o F.np) r a m.length → u ≡ false
+        → v ≡ is_reached (vertices_at w F.vo F.nv) F.nvp (polygons_at w F.o F.np) r b m.length
+        → v ≡ is_stale (vertices_at w F.vo F.nv) F.nvp (polygons_at w F.o F.np) a b r m.length m.b
     unfolding is_stale
     stale_second z f y d = rw (moved_is, z, ← f, y) d
 
     -- a polygon that neither changed nor moved has the stamp of its row
-    pub renew_stamped : {s : ℕ} → t ≡ false → s ≡ stamp_in w ro r → Stamped w vo nv o np nvp ro r s
+    pub renew_stamped : {s : ℕ} → t ≡ false → s ≡ stamp_in w F.ro r → Stamped w F r s
     renew_stamped z f =
-        let u = still r m.b a b np (sym e ∙ z) in
-        let p : polygon_at (polygons_at w o np) r ≡ polygon_at g.ps r = g.after.same r (omega (arith, long, g.below)) u.r_a u.r_b in
+        let u = still r m.b a b F.np (sym e ∙ z) in
+        let p : polygon_at (polygons_at w F.o F.np) r ≡ polygon_at g.ps r = g.after.same r (omega (arith, long, g.below)) u.r_a u.r_b in
         record { kept = g.kept; below = g.below; is = f ∙ stamp_read g.at ∙ ap (λ (x : Polygon). stamp_of x.corners) (sym p) }
 
   -- a row that is not stale stands as it should
-  pub renew_not : {m : Pair} {t : Bool} → m ≡ row_in w ro r → t ≡ is_stale (vertices_at w vo nv) nvp (polygons_at w o np) a b r m.length m.b → t ≡ false
-      → w ≡ splice w (ro + r * row_size) (row_record (vertices_at w vo nv) nvp (polygons_at w o np) r)
+  pub renew_not : {m : Pair} {t : Bool} → m ≡ row_in w F.ro r → t ≡ is_stale (vertices_at w F.vo F.nv) F.nvp (polygons_at w F.o F.np) a b r m.length m.b → t ≡ false
+      → w ≡ splice w (F.ro + r * row_size) (row_record (vertices_at w F.vo F.nv) F.nvp (polygons_at w F.o F.np) r)
   unfolding row_record
   renew_not {m} {t} e f z =
-      let vs = vertices_at w vo nv in
-      let qs = polygons_at w o np in
-      let ml : m.length ≡ (row_of vs nvp g.ps r).length = ap (λ (x : Pair). x.length) e ∙ length_read g.at in
-      let mb : m.b ≡ (row_of vs nvp g.ps r).b = ap (λ (x : Pair). x.b) e ∙ second_read g.at in
-      let y : is_stale vs nvp qs a b r (row_of vs nvp g.ps r).length (row_of vs nvp g.ps r).b ≡ false = rw (ml, mb) at (sym f ∙ z) in
+      let vs = vertices_at w F.vo F.nv in
+      let qs = polygons_at w F.o F.np in
+      let ml : m.length ≡ (row_of vs F.nvp g.ps r).length = ap (λ (x : Pair). x.length) e ∙ length_read g.at in
+      let mb : m.b ≡ (row_of vs F.nvp g.ps r).b = ap (λ (x : Pair). x.b) e ∙ second_read g.at in
+      let y : is_stale vs F.nvp qs a b r (row_of vs F.nvp g.ps r).length (row_of vs F.nvp g.ps r).b ≡ false = rw (ml, mb) at (sym f ∙ z) in
       let h : r < length qs = omega (arith, long, g.below) in
-      let same : row_record vs nvp g.ps r ≡ row_record vs nvp qs r =
-      rw (row_stays vs nvp g.ps qs a b r g.after h y, polygon_stays vs nvp g.ps qs a b r g.after h y) refl in
-      sym (splice_view w (ro + r * row_size) row_size) ∙ ap (splice w (ro + r * row_size)) (g.at.is ∙ same)
+      let same : row_record vs F.nvp g.ps r ≡ row_record vs F.nvp qs r =
+      rw (row_stays vs F.nvp g.ps qs a b r g.after h y, polygon_stays vs F.nvp g.ps qs a b r g.after h y) refl in
+      sym (splice_view w (F.ro + r * row_size) row_size) ∙ ap (splice w (F.ro + r * row_size)) (g.at.is ∙ same)
 
 -- the rows from r on are renewed: the one before them can be
-pub renewable_at : {w₀ : List ℕ} {vo nv o np nvp ro a b : ℕ} (g : AllRenewable w₀ vo nv o np nvp ro a b) {w : List ℕ} {r : ℕ}
-    → Keeping w₀ vo nv o np nvp ro w r → 0 < r → Renewable w vo nv o np nvp ro a b (r - 1)
+pub renewable_at : {w₀ : List ℕ} {F : Field} {a b : ℕ} (g : AllRenewable w₀ F a b) {w : List ℕ} {r : ℕ}
+    → Keeping w₀ F w r → 0 < r → Renewable w F a b (r - 1)
 renewable_at g {w} {r} k some = record {
   kept = kept_behind k some;
   below = omega (arith, k.most);

@@ -1,7 +1,7 @@
 -- One join after the other, with the rows kept: with zeros in the place of the rows the buffer is what it would be without them, and the rows are those of
 -- the polygons that are left. Assumes nothing.
 use mathlib.Core.Path.{◌≡◌, refl, sym, ap, ◌∙◌}
-use mathlib.Core.Bool.{Bool, true, false, true≢false}
+use mathlib.Core.Bool.{Bool}
 use mathlib.Core.List.{List, [], ◌∷◌, ◌++◌}
 use Prim.Native.Nat.{ℕ, ◌+◌, ◌-◌, ◌*◌, ◌≤◌, ◌<◌}
 use native.Mathlib.Omega.{arith}
@@ -21,7 +21,9 @@ use Rattle.records.specs.Polygons.{length_polygons, length_records}
 use Rattle.records.specs.Blanks.{Blanked, blanks_small, blanked_are, blanked_tidy}
 use Rattle.polys.specs.Ready.{MergeReady, JoinReady, MergedTo}
 use Rattle.laws.proofs.Rows.{after_join}
-use Rattle.polys.specs.Rows.{row_size, wiped, RowsReady, RowsKept, RowsIf, RenewIf, KeptIf, MergedOver}
+use Rattle.polys.specs.declared.field.Field.{Field}
+use Rattle.polys.specs.Fields.{first}
+use Rattle.polys.specs.Rows.{row_size, wiped, RowsReady, RowsReadyIn, RowsIf, RenewIf, KeptIf, MergedOver}
 use Rattle.polys.proofs.Merges.{smalls, are, Joining, joining_begin, joining_none, joining_more, joining_end, ready_now, join_ready, some_left}
 use Rattle.polys.proofs.Keeps.{vertices_under, polygons_under, ready_under}
 
@@ -67,188 +69,175 @@ wiped_size : (w : List ℕ) (ro np : ℕ) → length (wiped w ro np) ≡ length 
 unfolding wiped
 wiped_size w ro np = length_splice w ro (replicate (np * row_size) 0)
 
--- ---- whether rows are kept
-
--- where they are not, nothing is said of them
-pub kept_not : {w : List ℕ} {vo nv o np nvp ro : ℕ} {t : Bool} → RowsReady w vo nv o np nvp ro → t ≡ false → KeptIf w w vo nv o np nvp ro t
-kept_not ready z = record { rows = record { rows = ready; kept = λ (y : _ ≡ true). absurd (true≢false (sym y ∙ z)) }; same = refl; still = λ y. refl }
-
-pub kept_all : {w v : List ℕ} {vo nv o np nvp ro : ℕ} {t : Bool} → RowsKept w v vo nv o np nvp ro → t ≡ true → KeptIf w v vo nv o np nvp ro t
-kept_all k z = record {
-  rows = record { rows = k.kept.rows; kept = λ y. k.kept };
-  same = k.same;
-  still = λ (y : _ ≡ false). absurd (true≢false (sym z ∙ y));
-}
-
 -- ---- the loop of `merge_pairs`
 
-pub record Going (w₀ : List ℕ) (vo nv o np nvp ro : ℕ) (t : Bool) (w : List ℕ) (n : ℕ) : Type 0 where
-  pub joining : Joining (wiped w₀ ro np) vo nv o np nvp (wiped w ro np) n
-  pub kept : RowsIf w vo nv o n nvp ro t
+pub record Going (w₀ : List ℕ) (F : Field) (t : Bool) (w : List ℕ) (n : ℕ) : Type 0 where
+  pub joining : Joining (wiped w₀ F.ro F.np) F.vo F.nv F.o F.np F.nvp (wiped w F.ro F.np) n
+  pub kept : RowsIf w (first F n) t
   pub size : length w ≡ length w₀
 
-module _ {w₀ : List ℕ} {vo nv o np nvp ro : ℕ} (rows₀ : RowsReady w₀ vo nv o np nvp ro) (tidy₀ : Tidy w₀ o np) where
-  pub wiped_ready : MergeReady (wiped w₀ ro np) vo nv o np nvp
+module _ {w₀ : List ℕ} (F : Field) (rows₀ : RowsReadyIn w₀ F) (tidy₀ : Tidy w₀ F.o F.np) where
+  pub wiped_ready : MergeReady (wiped w₀ F.ro F.np) F.vo F.nv F.o F.np F.nvp
   unfolding wiped
   wiped_ready = record {
-    ready = (ready_under rows₀ ro (replicate (np * row_size) 0) (omega arith) refl).ready;
-    tidy = tidy_under rows₀ (replicate (np * row_size) 0) refl tidy₀;
+    ready = (ready_under rows₀ F.ro (replicate (F.np * row_size) 0) (omega arith) refl).ready;
+    tidy = tidy_under rows₀ (replicate (F.np * row_size) 0) refl tidy₀;
   }
 
-  module _ {t : Bool} {w : List ℕ} {n : ℕ} (g : Going w₀ vo nv o np nvp ro t w n) where
-    seen : vertices_at (wiped w ro np) vo nv ≡ vertices_at w vo nv
+  module _ {t : Bool} {w : List ℕ} {n : ℕ} (g : Going w₀ F t w n) where
+    seen : vertices_at (wiped w F.ro F.np) F.vo F.nv ≡ vertices_at w F.vo F.nv
     unfolding wiped
-    seen = vertices_under g.kept.rows ro (replicate (np * row_size) 0) (omega arith) refl
+    seen = vertices_under g.kept.rows F.ro (replicate (F.np * row_size) 0) (omega arith) refl
 
-    there : polygons_at (wiped w ro np) o n ≡ polygons_at w o n
+    there : polygons_at (wiped w F.ro F.np) F.o n ≡ polygons_at w F.o n
     unfolding wiped
-    there = polygons_under g.kept.rows ro (replicate (np * row_size) 0) (omega arith) refl
+    there = polygons_under g.kept.rows F.ro (replicate (F.np * row_size) 0) (omega arith) refl
 
-    room : ro + np * row_size ≤ length w
+    room : F.ro + F.np * row_size ≤ length w
     room = omega (arith, g.size, rows₀.room)
 
-    module _ (m : Pair) (e : m ≡ best_pair (vertices_at w vo nv) nvp (polygons_at w o n)) where
-      best : m ≡ best_pair (vertices_at (wiped w ro np) vo nv) nvp (polygons_at (wiped w ro np) o n)
+    module _ (m : Pair) (e : m ≡ best_pair (vertices_at w F.vo F.nv) F.nvp (polygons_at w F.o n)) where
+      best : m ≡ best_pair (vertices_at (wiped w F.ro F.np) F.vo F.nv) F.nvp (polygons_at (wiped w F.ro F.np) F.o n)
       best = e ∙ rw (seen, there) refl
 
       pub going_some : 0 < m.length → 0 < n
       going_some h = some_left wiped_ready g.joining m best h
 
-      pub going_join : 0 < m.length → JoinReady w o n nvp m
+      pub going_join : 0 < m.length → JoinReady w F.o n F.nvp m
       going_join h =
           let j = join_ready wiped_ready g.joining m best h in
           record {
-            fits = omega (arith, j.fits, wiped_size w ro np);
+            fits = omega (arith, j.fits, wiped_size w F.ro F.np);
             tidy =
-                tidy_under (ready_under g.kept.rows ro (replicate (np * row_size) 0) (omega arith) (wiped_is w ro np)) (view w ro (np * row_size))
-                (wiped_back w ro np room) j.tidy;
+                tidy_under (ready_under g.kept.rows F.ro (replicate (F.np * row_size) 0) (omega arith) (wiped_is w F.ro F.np)) (view w F.ro (F.np * row_size))
+                (wiped_back w F.ro F.np room) j.tidy;
             small = rw there at j.small;
             joinable = rw there at j.joinable;
             most = j.most;
           }
 
-      pub going_end : 3 < nvp → m.length ≡ 0 → MergedTo (wiped w₀ ro np) (wiped w ro np) vo nv o np nvp n
+      pub going_end : 3 < F.nvp → m.length ≡ 0 → MergedTo (wiped w₀ F.ro F.np) (wiped w F.ro F.np) F.vo F.nv F.o F.np F.nvp n
       going_end k h = joining_end wiped_ready g.joining m best k h
 
       module _ {v : List ℕ} (h : 0 < m.length) (l : length v ≡ length w)
-          (q : v ≡ splice w o (polygon_records (join_pair (polygons_at w o n) m ++ (no_polygon ∷ [])))) where
+          (q : v ≡ splice w F.o (polygon_records (join_pair (polygons_at w F.o n) m ++ (no_polygon ∷ [])))) where
         left : List ℕ
-        left = polygon_records (join_pair (polygons_at w o n) m ++ (no_polygon ∷ []))
+        left = polygon_records (join_pair (polygons_at w F.o n) m ++ (no_polygon ∷ []))
 
-        joinable : Joinable nvp (polygons_at w o n) m
+        joinable : Joinable F.nvp (polygons_at w F.o n) m
         joinable = (going_join h).joinable
 
-        good : All (Good (Below nv) nvp) (join_pair (polygons_at w o n) m)
-        good = (join_once (vertices_at w vo nv) (Below nv) nvp (polygons_at w o n) m joinable g.kept.rows.ready.good).good
+        good : All (Good (Below F.nv) F.nvp) (join_pair (polygons_at w F.o n) m)
+        good = (join_once (vertices_at w F.vo F.nv) (Below F.nv) F.nvp (polygons_at w F.o n) m joinable g.kept.rows.ready.good).good
 
         left_long : length left ≡ n * polygon_size
         unfolding left
         left_long =
-            let qs = join_pair (polygons_at w o n) m in
+            let qs = join_pair (polygons_at w F.o n) m in
             let s : Every Small no_polygon (qs ++ (no_polygon ∷ [])) =
-            every_append Small no_polygon qs (no_polygon ∷ []) (smalls nv nvp qs rows₀.ready.most good) (blanks_small 1) in
+            every_append Small no_polygon qs (no_polygon ∷ []) (smalls F.nv F.nvp qs rows₀.ready.most good) (blanks_small 1) in
             length_records (qs ++ (no_polygon ∷ [])) s
             ∙ ap (λ (k : ℕ). k * polygon_size)
-            (simp length-append (omega (arith, length_join (polygons_at w o n) m, length_polygons w o n, going_some h)))
+            (simp length-append (omega (arith, length_join (polygons_at w F.o n) m, length_polygons w F.o n, going_some h)))
 
-        wiped_left : wiped v ro np ≡ splice (wiped w ro np) o left
+        wiped_left : wiped v F.ro F.np ≡ splice (wiped w F.ro F.np) F.o left
         unfolding wiped left
-        wiped_left = rw q (splice_comm w o ro left (replicate (np * row_size) 0) (omega (arith, left_long, g.kept.rows.behind)))
+        wiped_left = rw q (splice_comm w F.o F.ro left (replicate (F.np * row_size) 0) (omega (arith, left_long, g.kept.rows.behind)))
 
-        joining_on : Joining (wiped w₀ ro np) vo nv o np nvp (wiped v ro np) (n - 1)
+        joining_on : Joining (wiped w₀ F.ro F.np) F.vo F.nv F.o F.np F.nvp (wiped v F.ro F.np) (n - 1)
         unfolding left
         joining_on =
-            joining_more wiped_ready g.joining m best h (wiped_size v ro np ∙ l ∙ sym (wiped_size w ro np)) (wiped_left ∙ rw there refl)
+            joining_more wiped_ready g.joining m best h (wiped_size v F.ro F.np ∙ l ∙ sym (wiped_size w F.ro F.np)) (wiped_left ∙ rw there refl)
 
-        ready_on : RowsReady v vo nv o (n - 1) nvp ro
+        ready_on : RowsReadyIn v (first F (n - 1))
         ready_on =
-            let r : RowsReady (wiped v ro np) vo nv o (n - 1) nvp ro = record {
+            let r : RowsReadyIn (wiped v F.ro F.np) (first F (n - 1)) = record {
               ready = ready_now wiped_ready joining_on;
               behind = omega (arith, g.kept.rows.behind);
-              room = omega (arith, g.kept.rows.room, wiped_size v ro np, l);
+              room = omega (arith, g.kept.rows.room, wiped_size v F.ro F.np, l);
               few = omega (arith, g.kept.rows.few);
             } in
-            ready_under r ro (view v ro (np * row_size)) (omega arith) (wiped_back v ro np (omega (arith, l, room)))
+            ready_under r F.ro (view v F.ro (F.np * row_size)) (omega arith) (wiped_back v F.ro F.np (omega (arith, l, room)))
 
-        are_on : polygons_at v o (n - 1) ≡ join_pair (polygons_at w o n) m
+        are_on : polygons_at v F.o (n - 1) ≡ join_pair (polygons_at w F.o n) m
         unfolding joining_on joining_more
         are_on =
-            sym (polygons_under ready_on ro (replicate (np * row_size) 0) (omega arith) (wiped_is v ro np)) ∙ are wiped_ready joining_on
+            sym (polygons_under ready_on F.ro (replicate (F.np * row_size) 0) (omega arith) (wiped_is v F.ro F.np)) ∙ are wiped_ready joining_on
             ∙ ap (λ (x : List Polygon). join_pair x m) (sym (are wiped_ready g.joining) ∙ there)
 
-        vertices_on : vertices_at v vo nv ≡ vertices_at w vo nv
+        vertices_on : vertices_at v F.vo F.nv ≡ vertices_at w F.vo F.nv
         unfolding vertices_at left
-        vertices_on = rw q (blocks_after vertex_in w o vo vertex_size nv left rows₀.ready.behind)
+        vertices_on = rw q (blocks_after vertex_in w F.o F.vo vertex_size F.nv left rows₀.ready.behind)
 
-        pub going_renew : RenewIf v vo nv o (n - 1) nvp ro m.a m.b t
+        pub going_renew : RenewIf v (first F (n - 1)) m.a m.b t
         unfolding left
         going_renew = record {
           rows = ready_on;
           kept = λ z. record {
             rows = ready_on;
-            ps = polygons_at w o n;
-            after = rw are_on (after_join nvp (polygons_at w o n) m joinable);
+            ps = polygons_at w F.o n;
+            after = rw are_on (after_join F.nvp (polygons_at w F.o n) m joinable);
             at = λ r k.
                 rw vertices_on (record {
                   is =
-                      rw q (view_after w o (ro + r * row_size) row_size left (omega (arith, left_long, g.kept.rows.behind)))
+                      rw q (view_after w F.o (F.ro + r * row_size) row_size left (omega (arith, left_long, g.kept.rows.behind)))
                       ∙ ((g.kept.kept z).at r (omega arith) (omega arith)).is;
                 });
           };
         }
 
-        pub going_more : {u : List ℕ} → length u ≡ length v → KeptIf v u vo nv o (n - 1) nvp ro t → Going w₀ vo nv o np nvp ro t u (n - 1)
+        pub going_more : {u : List ℕ} → length u ≡ length v → KeptIf v u (first F (n - 1)) t → Going w₀ F t u (n - 1)
         going_more {u} k f = record {
-          joining = rw (wiped_alike v u ro (n - 1) np joining_on.left.within f.same) joining_on;
+          joining = rw (wiped_alike v u F.ro (n - 1) F.np joining_on.left.within f.same) joining_on;
           kept = f.rows;
           size = k ∙ l ∙ g.size;
         }
 
-  pub going_begin : {t : Bool} → RowsIf w₀ vo nv o np nvp ro t → Going w₀ vo nv o np nvp ro t w₀ np
+  pub going_begin : {t : Bool} → RowsIf w₀ F t → Going w₀ F t w₀ F.np
   going_begin k = record { joining = joining_begin wiped_ready; kept = k; size = refl }
 
   -- ---- all joins are done, and the rows are wiped
 
-  pub merged_over : {v : List ℕ} {r : ℕ} → MergedTo (wiped w₀ ro np) v vo nv o np nvp r → MergedOver w₀ v vo nv o np nvp ro r
+  pub merged_over : {v : List ℕ} {r : ℕ} → MergedTo (wiped w₀ F.ro F.np) v F.vo F.nv F.o F.np F.nvp r → MergedOver w₀ v F.vo F.nv F.o F.np F.nvp F.ro r
   merged_over {v} {r} t =
-      let z : List ℕ = replicate (np * row_size) 0 in
-      let vs : vertices_at (wiped w₀ ro np) vo nv ≡ vertices_at w₀ vo nv =
-      vertices_under rows₀ ro (replicate (np * row_size) 0) (omega arith) (wiped_is w₀ ro np) in
-      let ps : polygons_at (wiped w₀ ro np) o np ≡ polygons_at w₀ o np = polygons_under rows₀ ro (replicate (np * row_size) 0) (omega arith) (wiped_is w₀ ro np) in
-      let qs = merge_all (vertices_at w₀ vo nv) nvp (polygons_at w₀ o np) in
-      let xs = polygon_records (qs ++ replicate (np - r) no_polygon) in
+      let z : List ℕ = replicate (F.np * row_size) 0 in
+      let vs : vertices_at (wiped w₀ F.ro F.np) F.vo F.nv ≡ vertices_at w₀ F.vo F.nv =
+      vertices_under rows₀ F.ro (replicate (F.np * row_size) 0) (omega arith) (wiped_is w₀ F.ro F.np) in
+      let ps : polygons_at (wiped w₀ F.ro F.np) F.o F.np ≡ polygons_at w₀ F.o F.np = polygons_under rows₀ F.ro (replicate (F.np * row_size) 0) (omega arith) (wiped_is w₀ F.ro F.np) in
+      let qs = merge_all (vertices_at w₀ F.vo F.nv) F.nvp (polygons_at w₀ F.o F.np) in
+      let xs = polygon_records (qs ++ replicate (F.np - r) no_polygon) in
       let count : r ≡ length qs = rw (vs, ps) at t.count in
-      let good : All (Good (Below nv) nvp) qs = rw (vs, ps) at t.good in
-      let small : Every Small no_polygon qs = smalls nv nvp qs rows₀.ready.most good in
-      let b : Blanked w₀ o np (splice w₀ o xs) qs r = record { long = sym count; within = t.fewer; small = small; is = refl } in
-      let long : length xs ≡ np * polygon_size =
-      length_records (qs ++ replicate (np - r) no_polygon) (every_append Small no_polygon qs (replicate (np - r) no_polygon) small (blanks_small (np - r)))
+      let good : All (Good (Below F.nv) F.nvp) qs = rw (vs, ps) at t.good in
+      let small : Every Small no_polygon qs = smalls F.nv F.nvp qs rows₀.ready.most good in
+      let b : Blanked w₀ F.o F.np (splice w₀ F.o xs) qs r = record { long = sym count; within = t.fewer; small = small; is = refl } in
+      let long : length xs ≡ F.np * polygon_size =
+      length_records (qs ++ replicate (F.np - r) no_polygon) (every_append Small no_polygon qs (replicate (F.np - r) no_polygon) small (blanks_small (F.np - r)))
       ∙ ap (λ (k : ℕ). k * polygon_size) (simp (length-append, length-replicate) (omega (arith, count, t.fewer))) in
       record {
-        mid = splice w₀ o xs;
+        mid = splice w₀ F.o xs;
         merged = record {
           count = count;
           is = refl;
           fewer = t.fewer;
-          polygons = blanked_are w₀ o np rows₀.ready.fits b;
+          polygons = blanked_are w₀ F.o F.np rows₀.ready.fits b;
           good = good;
-          tidy = blanked_tidy w₀ o np rows₀.ready.fits b;
+          tidy = blanked_tidy w₀ F.o F.np rows₀.ready.fits b;
         };
         is =
             (rw (vs, ps) at t.is)
-            ∙ rw (wiped_is w₀ ro np, wiped_is (splice w₀ o xs) ro np) (sym (splice_comm w₀ o ro xs z (omega (arith, long, rows₀.behind))));
+            ∙ rw (wiped_is w₀ F.ro F.np, wiped_is (splice w₀ F.o xs) F.ro F.np) (sym (splice_comm w₀ F.o F.ro xs z (omega (arith, long, rows₀.behind))));
       }
 
-  pub merged_none : {v : List ℕ} → nvp ≤ 3 → v ≡ splice w₀ ro (replicate (np * row_size) 0) → MergedOver w₀ v vo nv o np nvp ro np
-  merged_none h e = rw (e ∙ sym (wiped_is w₀ ro np)) (merged_over (joining_none wiped_ready h))
+  pub merged_none : {v : List ℕ} → F.nvp ≤ 3 → v ≡ splice w₀ F.ro (replicate (F.np * row_size) 0) → MergedOver w₀ v F.vo F.nv F.o F.np F.nvp F.ro F.np
+  merged_none h e = rw (e ∙ sym (wiped_is w₀ F.ro F.np)) (merged_over (joining_none wiped_ready h))
 
   -- the rows are kept in w, if they are, and the merge leaves v
-  module _ {t : Bool} {w : List ℕ} (l : length w ≡ length w₀) (k : KeptIf w₀ w vo nv o np nvp ro t) where
-    pub kept_tidy : Tidy w o np
+  module _ {t : Bool} {w : List ℕ} (l : length w ≡ length w₀) (k : KeptIf w₀ w F t) where
+    pub kept_tidy : Tidy w F.o F.np
     kept_tidy =
-        tidy_under (ready_under rows₀ ro (replicate (np * row_size) 0) (omega arith) (k.same ∙ wiped_is w₀ ro np)) (view w ro (np * row_size))
-        (wiped_back w ro np (omega (arith, l, rows₀.room))) (rw k.same wiped_ready.tidy)
+        tidy_under (ready_under rows₀ F.ro (replicate (F.np * row_size) 0) (omega arith) (k.same ∙ wiped_is w₀ F.ro F.np)) (view w F.ro (F.np * row_size))
+        (wiped_back w F.ro F.np (omega (arith, l, rows₀.room))) (rw k.same wiped_ready.tidy)
 
-    pub merged_rows : {u : List ℕ} (v : List ℕ) {r : ℕ} → MergedTo (wiped w ro np) (wiped v ro np) vo nv o np nvp r
-        → u ≡ splice v ro (replicate (np * row_size) 0) → MergedOver w₀ u vo nv o np nvp ro r
-    merged_rows v x f = rw (f ∙ sym (wiped_is v ro np)) (merged_over (rw k.same at x))
+    pub merged_rows : {u : List ℕ} (v : List ℕ) {r : ℕ} → MergedTo (wiped w F.ro F.np) (wiped v F.ro F.np) F.vo F.nv F.o F.np F.nvp r
+        → u ≡ splice v F.ro (replicate (F.np * row_size) 0) → MergedOver w₀ u F.vo F.nv F.o F.np F.nvp F.ro r
+    merged_rows v x f = rw (f ∙ sym (wiped_is v F.ro F.np)) (merged_over (rw k.same at x))

@@ -7,8 +7,10 @@ use Rattle.rules.specs.declared.Vertex.{Vertex}
 use Rattle.rules.specs.declared.Pair.{Pair}
 use Rattle.laws.specs.Rows.{row_of, After}
 use Rattle.laws.specs.Stamps.{stamp_of}
-use Rattle.records.specs.Layout.{polygon_size, vertices_at, polygons_at, Tidy}
+use Rattle.records.specs.Layout.{polygon_size, Tidy}
+use Rattle.polys.specs.declared.field.Field.{Field}
 use Rattle.polys.specs.Ready.{Ready, MergedTo}
+use Rattle.polys.specs.Fields.{vertices_in, polygons_in}
 
 -- ---- a row's words
 
@@ -59,55 +61,58 @@ pub record RowFits (w : List ℕ) (at : ℕ) (m : Pair) : Type 0 where
   pub side_a : m.ea < 2 ^ 32
   pub side_b : m.eb < 2 ^ 32
 
--- of the rows at ro those from f on are kept
-pub record KeptFrom (w : List ℕ) (vo nv o np nvp ro f : ℕ) : Type 0 where
-  pub rows : RowsReady w vo nv o np nvp ro
-  pub at : (r : ℕ) → f ≤ r → r < np → RowIs w ro r (vertices_at w vo nv) nvp (polygons_at w o np)
+abbrev pub RowsReadyIn : List ℕ → Field → Type 0
+RowsReadyIn w f = RowsReady w f.vo f.nv f.o f.np f.nvp f.ro
+
+-- of the rows those from q on are kept
+pub record KeptFrom (w : List ℕ) (f : Field) (q : ℕ) : Type 0 where
+  pub rows : RowsReadyIn w f
+  pub at : (r : ℕ) → q ≤ r → r < f.np → RowIs w f.ro r (vertices_in w f) f.nvp (polygons_in w f)
 
 -- the same, and s is the stamp of polygon r, which is the one before them
-pub record Stamped (w : List ℕ) (vo nv o np nvp ro r s : ℕ) : Type 0 where
-  pub kept : KeptFrom w vo nv o np nvp ro (r + 1)
-  pub below : r < np
-  pub is : s ≡ stamp_of (polygon_at (polygons_at w o np) r).corners
+pub record Stamped (w : List ℕ) (f : Field) (r s : ℕ) : Type 0 where
+  pub kept : KeptFrom w f (r + 1)
+  pub below : r < f.np
+  pub is : s ≡ stamp_of (polygon_at (polygons_in w f) r).corners
 
 -- row r is that of ps, of which a join of a and b left the polygons at o; the rows behind it are kept
-pub record Renewable (w : List ℕ) (vo nv o np nvp ro a b r : ℕ) : Type 0 where
-  pub kept : KeptFrom w vo nv o np nvp ro (r + 1)
-  pub below : r < np
+pub record Renewable (w : List ℕ) (f : Field) (a b r : ℕ) : Type 0 where
+  pub kept : KeptFrom w f (r + 1)
+  pub below : r < f.np
   pub ps : List Polygon
-  pub after : After ps (polygons_at w o np) a b
-  pub at : RowIs w ro r (vertices_at w vo nv) nvp ps
+  pub after : After ps (polygons_in w f) a b
+  pub at : RowIs w f.ro r (vertices_in w f) f.nvp ps
 
 -- all rows are those of ps
-pub record AllRenewable (w : List ℕ) (vo nv o np nvp ro a b : ℕ) : Type 0 where
-  pub rows : RowsReady w vo nv o np nvp ro
+pub record AllRenewable (w : List ℕ) (f : Field) (a b : ℕ) : Type 0 where
+  pub rows : RowsReadyIn w f
   pub ps : List Polygon
-  pub after : After ps (polygons_at w o np) a b
-  pub at : (r : ℕ) → r < np → RowIs w ro r (vertices_at w vo nv) nvp ps
+  pub after : After ps (polygons_in w f) a b
+  pub at : (r : ℕ) → r < f.np → RowIs w f.ro r (vertices_in w f) f.nvp ps
 
 -- w, with zeros in the place of np rows at ro
 unfoldable pub wiped : List ℕ → ℕ → ℕ → List ℕ
 wiped w ro np = splice w ro (replicate (np * row_size) 0)
 
 -- all rows are kept, and every other word is as it was
-pub record RowsKept (w v : List ℕ) (vo nv o np nvp ro : ℕ) : Type 0 where
-  pub kept : KeptFrom v vo nv o np nvp ro 0
-  pub same : wiped v ro np ≡ wiped w ro np
+pub record RowsKept (w v : List ℕ) (f : Field) : Type 0 where
+  pub kept : KeptFrom v f 0
+  pub same : wiped v f.ro f.np ≡ wiped w f.ro f.np
 
 -- where so many polygons are merged that rows are kept (t), all rows are
-pub record RowsIf (w : List ℕ) (vo nv o np nvp ro : ℕ) (t : Bool) : Type 0 where
-  pub rows : RowsReady w vo nv o np nvp ro
-  pub kept : t ≡ true → KeptFrom w vo nv o np nvp ro 0
+pub record RowsIf (w : List ℕ) (f : Field) (t : Bool) : Type 0 where
+  pub rows : RowsReadyIn w f
+  pub kept : t ≡ true → KeptFrom w f 0
 
 -- the same, where a join of a and b is to be told to the rows
-pub record RenewIf (w : List ℕ) (vo nv o np nvp ro a b : ℕ) (t : Bool) : Type 0 where
-  pub rows : RowsReady w vo nv o np nvp ro
-  pub kept : t ≡ true → AllRenewable w vo nv o np nvp ro a b
+pub record RenewIf (w : List ℕ) (f : Field) (a b : ℕ) (t : Bool) : Type 0 where
+  pub rows : RowsReadyIn w f
+  pub kept : t ≡ true → AllRenewable w f a b
 
 -- and every word but those of the rows is as it was; where none are kept, every word
-pub record KeptIf (w v : List ℕ) (vo nv o np nvp ro : ℕ) (t : Bool) : Type 0 where
-  pub rows : RowsIf v vo nv o np nvp ro t
-  pub same : wiped v ro np ≡ wiped w ro np
+pub record KeptIf (w v : List ℕ) (f : Field) (t : Bool) : Type 0 where
+  pub rows : RowsIf v f t
+  pub same : wiped v f.ro f.np ≡ wiped w f.ro f.np
   pub still : t ≡ false → v ≡ w
 
 -- the polygons are to be merged, and behind them there is room for their rows

@@ -2,9 +2,9 @@
 ghost use Rattle.std.specs.Prelude.{◌≡◌, ◌<◌};
 ghost use Rattle.rules.specs.Merge.{best_of_row, best_pair};
 ghost use Rattle.rules.specs.Merge as Rules;
-ghost use Rattle.records.specs.Layout.{vertices_at, polygons_at};
-ghost use Rattle.polys.specs.Ready.{Ready};
+ghost use Rattle.polys.specs.Fields.{vertices_in, polygons_in, ReadyIn};
 
+use crate::field::Field;
 use crate::value::{get_poly_merge_value, no_pair};
 use rules::Pair;
 
@@ -16,34 +16,25 @@ pub fn greater(best: Pair, m: Pair) -> Pair
 }
 
 // The best of `best` and the pairs of polygon a with each one after it.
-fn best_of_row(
-    work: &[u32],
-    vo: usize,
-    nv: usize,
-    o: usize,
-    np: usize,
-    nvp: usize,
-    a: usize,
-    best: Pair,
-) -> Pair
-    requires { Ready work.now vo nv o np nvp × (a < np) }
-    ensures { result ≡ best_of_row (vertices_at work.now vo nv) nvp (polygons_at work.now o np) a best }
+fn best_of_row(work: &[u32], f: Field, a: usize, best: Pair) -> Pair
+    requires { ReadyIn work.now f × (a < f.np) }
+    ensures { result ≡ best_of_row (vertices_in work.now f) f.nvp (polygons_in work.now f) a best }
 {
     let mut m = best;
-    for b in a + 1..np {
-        m = greater(m, get_poly_merge_value(work, vo, nv, o, np, nvp, a, b));
+    for b in a + 1..f.np {
+        m = greater(m, get_poly_merge_value(work, f, a, b));
     }
     m
 }
 
 // The best pair of all.
-pub fn best_pair(work: &[u32], vo: usize, nv: usize, o: usize, np: usize, nvp: usize) -> Pair
-    requires { Ready work.now vo nv o np nvp }
-    ensures { result ≡ best_pair (vertices_at work.now vo nv) nvp (polygons_at work.now o np) }
+pub fn best_pair(work: &[u32], f: Field) -> Pair
+    requires { ReadyIn work.now f }
+    ensures { result ≡ best_pair (vertices_in work.now f) f.nvp (polygons_in work.now f) }
 {
     let mut m = no_pair();
-    for a in 0..np {
-        m = best_of_row(work, vo, nv, o, np, nvp, a, m);
+    for a in 0..f.np {
+        m = best_of_row(work, f, a, m);
     }
     m
 }

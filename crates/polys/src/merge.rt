@@ -3,13 +3,15 @@ ghost use Rattle.std.specs.Prelude.{◌≡◌, cond, [], ◌∷◌, ◌++◌, �
 ghost use Rattle.mem.specs.Slice.{splice};
 ghost use Rattle.rules.specs.Mesh.{no_polygon};
 ghost use Rattle.rules.specs.Merge.{past_side, joined, join_pair};
-ghost use Rattle.records.specs.Layout.{most_corners, polygons_at, polygon_records, Tidy};
+ghost use Rattle.records.specs.Layout.{most_corners, polygon_records, Tidy};
 ghost use Rattle.records.specs.Values.{corners_of, polygon_of, Loaded, On};
+ghost use Rattle.polys.specs.Fields.{polygons_in};
 ghost use Rattle.polys.specs.Ready.{JoinReady, MergedTo};
 ghost use Rattle.polys.specs.Rows.{wiped, RowsIf, MergeRoom, MergedOver};
 
+use crate::field::Field;
 use crate::row::ROW_SIZE;
-use crate::rows::{best_if, keep_if, renew_if};
+use crate::search::{AllPairs, KeptRows, Search};
 use records::polygon::{NONE, Poly, load_at, store_at, swap_remove};
 use rules::Pair;
 use words::fill::fill;
@@ -52,44 +54,46 @@ pub fn merge_poly_verts(p: Poly, q: Poly, ea: usize, eb: usize) -> Poly
     }
 }
 
-// Of the np polygons at o, the join of a pair takes the place of its first, the last takes the place of its second, and a
-// blank one that of the last.
-pub fn join_pair(work: &mut [u32], o: usize, np: usize, nvp: usize, m: Pair)
-    requires { JoinReady work.old o np nvp m }
-    ensures { work.new ≡ splice work.old o (polygon_records (join_pair (polygons_at work.old o np) m ++ (no_polygon ∷ []))) }
+// The join of a pair takes the place of its first, the last polygon takes the place of its second, and a blank one that of
+// the last.
+pub fn join_pair(work: &mut [u32], f: Field, m: Pair)
+    requires { JoinReady work.old f.o f.np f.nvp m }
+    ensures { work.new ≡ splice work.old f.o (polygon_records (join_pair (polygons_in work.old f) m ++ (no_polygon ∷ []))) }
 {
-    let p = load_at(work, o, np, m.a);
-    let q = load_at(work, o, np, m.b);
+    let p = load_at(work, f.o, f.np, m.a);
+    let q = load_at(work, f.o, f.np, m.b);
     let r = merge_poly_verts(p, q, m.ea, m.eb);
-    store_at(work, o, np, m.a, r);
-    swap_remove(work, o, np, m.b);
+    store_at(work, f.o, f.np, m.a, r);
+    swap_remove(work, f.o, f.np, m.b);
 }
 
-// The np polygons at o are merged as far as they can be, with their rows kept at ro or without. The result says how many are
-// left.
-fn merge_pairs(
-    work: &mut [u32],
-    vo: usize,
-    nv: usize,
-    o: usize,
-    np: usize,
-    nvp: usize,
-    ro: usize,
-    kept: bool,
-) -> usize
-    requires { RowsIf work.old vo nv o np nvp ro kept × Tidy work.old o np × (3 < nvp) }
-    ensures { MergedTo (wiped work.old ro np) (wiped work.new ro np) vo nv o np nvp result }
+// The polygons are merged as far as they can be, the best pair being found by S. The result says how many are left.
+fn merge_pairs<S: Search>(work: &mut [u32], f: Field) -> usize
+    requires { RowsIf work.old f S.kept × Tidy work.old f.o f.np × (3 < f.nvp) }
+    ensures { MergedTo (wiped work.old f.ro f.np) (wiped work.new f.ro f.np) f.vo f.nv f.o f.np f.nvp result }
 {
-    let mut n = np;
+    let mut n = f.np;
     loop {
-        let m = best_if(work, vo, nv, o, n, nvp, ro, kept);
+        let g = Field { np: n, ..f };
+        let m = S::best(work, g);
         if m.length == 0 {
             return n;
         }
-        join_pair(work, o, n, nvp, m);
+        join_pair(work, g, m);
         n -= 1;
-        renew_if(work, vo, nv, o, n, nvp, ro, kept, m.a, m.b);
+        S::renew(work, Field { np: n, ..f }, m.a, m.b);
     }
+}
+
+// The same from the beginning, with zeros left in the room for rows.
+fn merge_by<S: Search>(work: &mut [u32], f: Field) -> usize
+    requires { MergeRoom work.old f.vo f.nv f.o f.np f.nvp f.ro × (3 < f.nvp) }
+    ensures { MergedOver work.old work.new f.vo f.nv f.o f.np f.nvp f.ro result }
+{
+    S::begin(work, f);
+    let n = merge_pairs::<S>(work, f);
+    fill(work, f.ro, f.np * ROW_SIZE, 0);
+    n
 }
 
 // The np polygons at o are merged as far as they can be, with zeros left at ro, where there is room for their rows. The result
@@ -110,9 +114,17 @@ pub fn merge_polys(
         fill(work, ro, np * ROW_SIZE, 0);
         return np;
     }
-    let kept = FEW < np;
-    keep_if(work, vo, nv, o, np, nvp, ro, kept);
-    let n = merge_pairs(work, vo, nv, o, np, nvp, ro, kept);
-    fill(work, ro, np * ROW_SIZE, 0);
-    n
+    let f = Field {
+        vo,
+        nv,
+        o,
+        np,
+        nvp,
+        ro,
+    };
+    if FEW < np {
+        merge_by::<KeptRows>(work, f)
+    } else {
+        merge_by::<AllPairs>(work, f)
+    }
 }

@@ -1,13 +1,14 @@
-// One kept row of the merge: of polygon r the best pair with one after it, and its stamp. It stands at ro + r * ROW_SIZE, behind the
+// One kept row of the merge: of polygon r the best pair with one after it, and its stamp. It stands at f.ro + r * ROW_SIZE, behind the
 // polygons. A row is made when those behind it are kept, since it looks at their stamps.
 ghost use Rattle.std.specs.Prelude.{◌≡◌, ◌+◌, ◌*◌, ◌≤◌, ◌<◌, length};
 ghost use Rattle.mem.specs.Slice.{splice};
 ghost use Rattle.rules.specs.Merge.{merge_value};
 ghost use Rattle.laws.specs.Rows.{row_of};
-ghost use Rattle.records.specs.Layout.{vertices_at, polygons_at};
+ghost use Rattle.polys.specs.Fields.{vertices_in, polygons_in};
 ghost use Rattle.polys.specs.Rows.{row_size, row_words, row_record, row_in, stamp_in, RowFits, KeptFrom, Stamped};
 
 use crate::best::greater;
+use crate::field::Field;
 use crate::stamp::{are_apart, stamp_from};
 use crate::value::{get_poly_merge_value, no_pair};
 use records::polygon::POLYGON_SIZE;
@@ -16,12 +17,12 @@ use rules::Pair;
 // The words of a row: its pair but for the first polygon, and its polygon's stamp.
 pub const ROW_SIZE: usize = 5;
 
-// The pair of row r of those at ro.
-pub fn row_at(work: &[u32], ro: usize, r: usize) -> Pair
-    requires { ro + r * row_size + row_size ≤ length work.now }
-    ensures { result ≡ row_in work.now ro r }
+// The pair of row r.
+pub fn row_at(work: &[u32], f: Field, r: usize) -> Pair
+    requires { f.ro + r * row_size + row_size ≤ length work.now }
+    ensures { result ≡ row_in work.now f.ro r }
 {
-    let at = ro + r * ROW_SIZE;
+    let at = f.ro + r * ROW_SIZE;
     Pair {
         length: work[at],
         a: r,
@@ -31,12 +32,12 @@ pub fn row_at(work: &[u32], ro: usize, r: usize) -> Pair
     }
 }
 
-// The stamp of row r of those at ro.
-pub fn stamp_at(work: &[u32], ro: usize, r: usize) -> u32
-    requires { ro + r * row_size + row_size ≤ length work.now }
-    ensures { result ≡ stamp_in work.now ro r }
+// The stamp of row r.
+pub fn stamp_at(work: &[u32], f: Field, r: usize) -> u32
+    requires { f.ro + r * row_size + row_size ≤ length work.now }
+    ensures { result ≡ stamp_in work.now f.ro r }
 {
-    work[ro + r * ROW_SIZE + 4]
+    work[f.ro + r * ROW_SIZE + 4]
 }
 
 // The words of a row are written at `at`: the pair m, and the stamp s.
@@ -52,65 +53,35 @@ fn store_row(work: &mut [u32], at: usize, m: Pair, s: u32)
 }
 
 // The value of polygon a, whose stamp is s, and b, after it. Their corners are looked at only if the stamps have a bit in common.
-pub fn stamped_value(
-    work: &[u32],
-    vo: usize,
-    nv: usize,
-    o: usize,
-    np: usize,
-    nvp: usize,
-    ro: usize,
-    a: usize,
-    s: u32,
-    b: usize,
-) -> Pair
-    requires { Stamped work.now vo nv o np nvp ro a s × (a < b) × (b < np) }
-    ensures { result ≡ merge_value (vertices_at work.now vo nv) nvp (polygons_at work.now o np) a b }
+pub fn stamped_value(work: &[u32], f: Field, a: usize, s: u32, b: usize) -> Pair
+    requires { Stamped work.now f a s × (a < b) × (b < f.np) }
+    ensures { result ≡ merge_value (vertices_in work.now f) f.nvp (polygons_in work.now f) a b }
 {
-    if are_apart(s, stamp_at(work, ro, b)) {
+    if are_apart(s, stamp_at(work, f, b)) {
         return no_pair();
     }
-    get_poly_merge_value(work, vo, nv, o, np, nvp, a, b)
+    get_poly_merge_value(work, f, a, b)
 }
 
 // The best pair of polygon a, whose stamp is s, with one after it.
-fn stamped_row(
-    work: &[u32],
-    vo: usize,
-    nv: usize,
-    o: usize,
-    np: usize,
-    nvp: usize,
-    ro: usize,
-    a: usize,
-    s: u32,
-) -> Pair
-    requires { Stamped work.now vo nv o np nvp ro a s }
-    ensures { result ≡ row_of (vertices_at work.now vo nv) nvp (polygons_at work.now o np) a }
+fn stamped_row(work: &[u32], f: Field, a: usize, s: u32) -> Pair
+    requires { Stamped work.now f a s }
+    ensures { result ≡ row_of (vertices_in work.now f) f.nvp (polygons_in work.now f) a }
 {
     let mut m = no_pair();
-    for b in a + 1..np {
-        m = greater(m, stamped_value(work, vo, nv, o, np, nvp, ro, a, s, b));
+    for b in a + 1..f.np {
+        m = greater(m, stamped_value(work, f, a, s, b));
     }
     m
 }
 
 // Row r is made, the rows behind it are kept.
-pub fn keep_row(
-    work: &mut [u32],
-    vo: usize,
-    nv: usize,
-    o: usize,
-    np: usize,
-    nvp: usize,
-    ro: usize,
-    r: usize,
-)
-    requires { KeptFrom work.old vo nv o np nvp ro (r + 1) × (r < np) }
-    ensures { work.new ≡ splice work.old (ro + r * row_size)
-        (row_record (vertices_at work.old vo nv) nvp (polygons_at work.old o np) r) }
+pub fn keep_row(work: &mut [u32], f: Field, r: usize)
+    requires { KeptFrom work.old f (r + 1) × (r < f.np) }
+    ensures { work.new ≡ splice work.old (f.ro + r * row_size)
+        (row_record (vertices_in work.old f) f.nvp (polygons_in work.old f) r) }
 {
-    let s = stamp_from(work, o + r * POLYGON_SIZE);
-    let m = stamped_row(work, vo, nv, o, np, nvp, ro, r, s);
-    store_row(work, ro + r * ROW_SIZE, m, s);
+    let s = stamp_from(work, f.o + r * POLYGON_SIZE);
+    let m = stamped_row(work, f, r, s);
+    store_row(work, f.ro + r * ROW_SIZE, m, s);
 }

@@ -3,34 +3,33 @@ ghost use Rattle.std.specs.Prelude.{◌≡◌, ◌+◌, ◌*◌};
 ghost use Rattle.mem.specs.Slice.{splice};
 ghost use Rattle.rules.specs.Merge.{best_pair};
 ghost use Rattle.laws.specs.Rows.{is_moved, is_rival, is_reached, is_stale};
-ghost use Rattle.records.specs.Layout.{vertices_at, polygons_at};
-ghost use Rattle.polys.specs.Rows.{row_size, row_record, RowsReady, KeptFrom, Stamped, Renewable, AllRenewable, RowsKept, RowsIf, RenewIf, KeptIf};
+ghost use Rattle.polys.specs.Fields.{vertices_in, polygons_in};
+ghost use Rattle.polys.specs.Rows.{row_size, row_record, RowsReadyIn, KeptFrom, Stamped, Renewable, AllRenewable, RowsKept};
 
-use crate::best::{best_pair, greater};
+use crate::best::greater;
+use crate::field::Field;
 use crate::row::{keep_row, row_at, stamp_at, stamped_value};
 use crate::value::no_pair;
 use rules::Pair;
 
 // All rows are made.
-fn keep_rows(work: &mut [u32], vo: usize, nv: usize, o: usize, np: usize, nvp: usize, ro: usize)
-    requires { RowsReady work.old vo nv o np nvp ro }
-    ensures { RowsKept work.old work.new vo nv o np nvp ro }
+pub fn keep_rows(work: &mut [u32], f: Field)
+    requires { RowsReadyIn work.old f }
+    ensures { RowsKept work.old work.new f }
 {
-    let mut r = np;
-    while 0 < r {
-        r -= 1;
-        keep_row(work, vo, nv, o, np, nvp, ro, r);
+    for r in (0..f.np).rev() {
+        keep_row(work, f, r);
     }
 }
 
 // The best pair of all, from the rows.
-fn best_kept(work: &[u32], vo: usize, nv: usize, o: usize, np: usize, nvp: usize, ro: usize) -> Pair
-    requires { KeptFrom work.now vo nv o np nvp ro 0 }
-    ensures { result ≡ best_pair (vertices_at work.now vo nv) nvp (polygons_at work.now o np) }
+pub fn best_kept(work: &[u32], f: Field) -> Pair
+    requires { KeptFrom work.now f 0 }
+    ensures { result ≡ best_pair (vertices_in work.now f) f.nvp (polygons_in work.now f) }
 {
     let mut m = no_pair();
-    for r in 0..np {
-        m = greater(m, row_at(work, ro, r));
+    for r in 0..f.np {
+        m = greater(m, row_at(work, f, r));
     }
     m
 }
@@ -50,159 +49,52 @@ fn is_rival(l: u32, m: Pair) -> bool
 }
 
 // Whether polygon q comes after r, whose stamp is s, and their pair is as long as l, or longer.
-fn is_reached(
-    work: &[u32],
-    vo: usize,
-    nv: usize,
-    o: usize,
-    np: usize,
-    nvp: usize,
-    ro: usize,
-    r: usize,
-    s: u32,
-    q: usize,
-    l: u32,
-) -> bool
-    requires { Stamped work.now vo nv o np nvp ro r s }
-    ensures { result ≡ is_reached (vertices_at work.now vo nv) nvp (polygons_at work.now o np) r q l }
+fn is_reached(work: &[u32], f: Field, r: usize, s: u32, q: usize, l: u32) -> bool
+    requires { Stamped work.now f r s }
+    ensures { result ≡ is_reached (vertices_in work.now f) f.nvp (polygons_in work.now f) r q l }
 {
     if q <= r {
         return false;
     }
-    if np <= q {
+    if f.np <= q {
         return false;
     }
-    is_rival(l, stamped_value(work, vo, nv, o, np, nvp, ro, r, s, q))
+    is_rival(l, stamped_value(work, f, r, s, q))
 }
 
 // Whether row r, which is m, is stale after a join of a and b.
-fn is_stale(
-    work: &[u32],
-    vo: usize,
-    nv: usize,
-    o: usize,
-    np: usize,
-    nvp: usize,
-    ro: usize,
-    a: usize,
-    b: usize,
-    r: usize,
-    m: Pair,
-) -> bool
-    requires { Renewable work.now vo nv o np nvp ro a b r }
-    ensures { result ≡ is_stale (vertices_at work.now vo nv) nvp (polygons_at work.now o np) a b r m.length m.b }
+fn is_stale(work: &[u32], f: Field, a: usize, b: usize, r: usize, m: Pair) -> bool
+    requires { Renewable work.now f a b r }
+    ensures { result ≡ is_stale (vertices_in work.now f) f.nvp (polygons_in work.now f) a b r m.length m.b }
 {
-    if is_moved(r, m.b, a, b, np) {
+    if is_moved(r, m.b, a, b, f.np) {
         return true;
     }
-    let s = stamp_at(work, ro, r);
-    if is_reached(work, vo, nv, o, np, nvp, ro, r, s, a, m.length) {
+    let s = stamp_at(work, f, r);
+    if is_reached(work, f, r, s, a, m.length) {
         return true;
     }
-    is_reached(work, vo, nv, o, np, nvp, ro, r, s, b, m.length)
+    is_reached(work, f, r, s, b, m.length)
 }
 
 // Row r after a join of a and b, the rows behind it are kept.
-fn renew_row(
-    work: &mut [u32],
-    vo: usize,
-    nv: usize,
-    o: usize,
-    np: usize,
-    nvp: usize,
-    ro: usize,
-    a: usize,
-    b: usize,
-    r: usize,
-)
-    requires { Renewable work.old vo nv o np nvp ro a b r }
-    ensures { work.new ≡ splice work.old (ro + r * row_size)
-        (row_record (vertices_at work.old vo nv) nvp (polygons_at work.old o np) r) }
+fn renew_row(work: &mut [u32], f: Field, a: usize, b: usize, r: usize)
+    requires { Renewable work.old f a b r }
+    ensures { work.new ≡ splice work.old (f.ro + r * row_size)
+        (row_record (vertices_in work.old f) f.nvp (polygons_in work.old f) r) }
 {
-    let m = row_at(work, ro, r);
-    if is_stale(work, vo, nv, o, np, nvp, ro, a, b, r, m) {
-        keep_row(work, vo, nv, o, np, nvp, ro, r);
+    let m = row_at(work, f, r);
+    if is_stale(work, f, a, b, r, m) {
+        keep_row(work, f, r);
     }
 }
 
 // All rows after a join of a and b.
-fn renew_rows(
-    work: &mut [u32],
-    vo: usize,
-    nv: usize,
-    o: usize,
-    np: usize,
-    nvp: usize,
-    ro: usize,
-    a: usize,
-    b: usize,
-)
-    requires { AllRenewable work.old vo nv o np nvp ro a b }
-    ensures { RowsKept work.old work.new vo nv o np nvp ro }
+pub fn renew_rows(work: &mut [u32], f: Field, a: usize, b: usize)
+    requires { AllRenewable work.old f a b }
+    ensures { RowsKept work.old work.new f }
 {
-    let mut r = np;
-    while 0 < r {
-        r -= 1;
-        renew_row(work, vo, nv, o, np, nvp, ro, a, b, r);
-    }
-}
-
-// All rows are made, if rows are kept.
-pub fn keep_if(
-    work: &mut [u32],
-    vo: usize,
-    nv: usize,
-    o: usize,
-    np: usize,
-    nvp: usize,
-    ro: usize,
-    kept: bool,
-)
-    requires { RowsReady work.old vo nv o np nvp ro }
-    ensures { KeptIf work.old work.new vo nv o np nvp ro kept }
-{
-    if kept {
-        keep_rows(work, vo, nv, o, np, nvp, ro);
-    }
-}
-
-// The best pair: from the rows if they are kept, from all pairs if not.
-pub fn best_if(
-    work: &[u32],
-    vo: usize,
-    nv: usize,
-    o: usize,
-    np: usize,
-    nvp: usize,
-    ro: usize,
-    kept: bool,
-) -> Pair
-    requires { RowsIf work.now vo nv o np nvp ro kept }
-    ensures { result ≡ best_pair (vertices_at work.now vo nv) nvp (polygons_at work.now o np) }
-{
-    if kept {
-        return best_kept(work, vo, nv, o, np, nvp, ro);
-    }
-    best_pair(work, vo, nv, o, np, nvp)
-}
-
-// The rows after a join of a and b, if they are kept.
-pub fn renew_if(
-    work: &mut [u32],
-    vo: usize,
-    nv: usize,
-    o: usize,
-    np: usize,
-    nvp: usize,
-    ro: usize,
-    kept: bool,
-    a: usize,
-    b: usize,
-)
-    requires { RenewIf work.old vo nv o np nvp ro a b kept }
-    ensures { KeptIf work.old work.new vo nv o np nvp ro kept }
-{
-    if kept {
-        renew_rows(work, vo, nv, o, np, nvp, ro, a, b);
+    for r in (0..f.np).rev() {
+        renew_row(work, f, a, b, r);
     }
 }

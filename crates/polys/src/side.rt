@@ -23,10 +23,7 @@ pub fn is_opposite(a: u32, b: u32, c: u32, d: u32) -> bool
 fn is_equal(a: u32, b: u32, c: u32, d: u32) -> bool
     ensures { result ≡ ((eqb a c && eqb b d) || (eqb a d && eqb b c)) }
 {
-    if is_along(a, b, c, d) {
-        return true;
-    }
-    is_opposite(a, b, c, d)
+    is_along(a, b, c, d) | is_opposite(a, b, c, d)
 }
 
 // Side i of the first, and the first side of the second that is equal to it.
@@ -56,14 +53,9 @@ pub fn shared_side(work: &[u32], at: usize, bt: usize) -> Option<(usize, usize)>
     requires { Stands work.now at × Stands work.now bt }
     ensures { result ≡ shared_side (corners_from work.now at) (corners_from work.now bt) }
 {
-    let mut i = count_from(work, at);
-    while 0 < i {
-        i -= 1;
-        match shared_by(work, at, bt, i) {
-            Some((k, j)) => {
-                return Some((k, j));
-            }
-            None => {}
+    for i in (0..count_from(work, at)).rev() {
+        if let Some(sides) = shared_by(work, at, bt, i) {
+            return Some(sides);
         }
     }
     None

@@ -21,7 +21,7 @@ pub fn stamp_from(work: &[u32], at: usize) -> u32
     let n = count_from(work, at);
     let mut s = 0u32;
     for i in 0..n {
-        s = s | stamp_bit(corner_from(work, at, i));
+        s |= stamp_bit(corner_from(work, at, i));
     }
     s
 }

@@ -1,6 +1,5 @@
 -- `links::adjacency::build_mesh_adjacency` meets its contract: the links stored so far are R6's for the records so far. Assumes nothing.
 use mathlib.Core.Path.{◌≡◌}
-use Prim.Native.Nat.{◌-◌}
 use lib.ListN.{length}
 use Rattle.links.proofs.Stores.{Linkable, Linking}
 use Rattle.links.proofs.adjacency.build_mesh_adjacency.Given as goal

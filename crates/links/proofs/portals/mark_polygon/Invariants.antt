@@ -1,5 +1,4 @@
 -- `links::portals::mark_polygon` meets its contract: the word of each side is written once, from what stood there before. Assumes nothing.
-use Prim.Native.Nat.{◌-◌}
 use Rattle.mem.specs.Slice.{view}
 use Rattle.mem.specs.Tab.{Filled}
 use Rattle.rules.specs.Portals.{portal_at}
@@ -8,5 +7,5 @@ use Rattle.records.specs.Values.{corners_of}
 use Rattle.links.proofs.portals.mark_polygon.Given as goal
 
 abbrev pub invariant-loop-j : goal.invariant-loop-j
-invariant-loop-j l = Filled l.initial.work l.at (portal_at (vertices_at l.initial.work l.vo l.nv) l.w l.h (corners_of l.p) (view l.initial.work l.at l.p.n))
+invariant-loop-j l = Filled l.initial.work l.at (portal_at (vertices_at l.initial.work l.g.vo l.g.nv) l.g.w l.g.h (corners_of l.p) (view l.initial.work l.at l.p.n))
     l.p.n l.work l.j

@@ -1,5 +1,4 @@
 -- `links::portals::mark_portals` meets its contract: the links of the polygons so far are R7's, those of the others are as they were. Assumes nothing.
-use Prim.Native.Nat.{◌-◌}
 use Rattle.links.proofs.Marks.{Marking}
 use Rattle.links.proofs.portals.mark_portals.Given as goal
 

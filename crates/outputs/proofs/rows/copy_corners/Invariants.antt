@@ -1,7 +1,6 @@
 -- `outputs::rows::copy_corners` meets its contract: the rows of the polygons so far are written. Assumes nothing.
-use Prim.Native.Nat.{◌-◌}
 use Rattle.outputs.proofs.Copies.{CornersCopied}
 use Rattle.outputs.proofs.rows.copy_corners.Given as goal
 
 abbrev pub invariant-loop-i : goal.invariant-loop-i
-invariant-loop-i l = CornersCopied l.work l.o l.np l.nvp l.initial.out l.out l.i
+invariant-loop-i l = CornersCopied l.work l.at.o l.at.np l.nvp l.initial.out l.out l.i

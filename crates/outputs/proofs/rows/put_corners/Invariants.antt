@@ -1,5 +1,4 @@
 -- `outputs::rows::put_corners` meets its contract: the places so far are written, and the first n of twelve are the polygon's row. Assumes nothing.
-use Prim.Native.Nat.{◌-◌}
 use lib.ListN.{get_or}
 use Rattle.mem.specs.Tab.{Filled}
 use Rattle.outputs.proofs.rows.put_corners.Given as goal

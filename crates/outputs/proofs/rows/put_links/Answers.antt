@@ -1,19 +1,17 @@
-use mathlib.Core.Path.{refl, ap, ◌∙◌}
+-- `outputs::rows::put_links` meets its contract: the part that was copied to holds the words, and the rest is as it was. Assumes nothing.
+use mathlib.Core.Path.{◌≡◌, ap, ◌∙◌}
+use lib.ListN.{length}
+use Prim.Native.Nat.{ℕ, ◌+◌, ◌-◌}
 use native.Mathlib.Omega.{arith}
-use Rattle.mem.specs.Slice.{splice}
-use Rattle.mem.specs.Tab.{filled_none, filled_more, filled_all, tab_view}
-use borrow.Author.Rules.{rules}
+use Rattle.mem.specs.Slice.{view, splice, lent_back, length_view}
 use Rattle.outputs.proofs.rows.put_links.Goals as goal
 
--- src/rows.rt:47:5
-pub loop-j-init : goal.loop-j-init
-loop-j-init c = filled_none _ _ _ _
-
--- src/rows.rt:47:5
-pub loop-j-preserved : goal.loop-j-preserved
-loop-j-preserved c = filled_more c.loop-j.invariant _ _ (omega arith) refl c.loop-j-test.true
-
--- src/rows.rt:42:1
 pub returns : goal.returns
 returns c =
-    filled_all c.loop-j.invariant c.loop-j-test.false ∙ ap (splice c.args.out.now c.args.to) (tab_view c.args.work.now c.args.at c.args.n 0 (search rules))
+    let g = c.args in
+    let as_many : g.at + g.n - g.at ≡ g.n = omega arith in
+    let words : c.copy_from_slice.new.self ≡ view g.work.now g.at g.n =
+    c.copy_from_slice.ensures.after ∙ ap (λ (k : ℕ). view g.work.now g.at k) as_many in
+    lent_back g.out.now g.to (g.to + g.n - g.to) c.copy_from_slice.new.self
+    (omega (arith, ap length words, length_view g.work.now g.at g.n)) (omega arith)
+    ∙ ap (splice g.out.now g.to) words

@@ -8,7 +8,7 @@ returns c = record {
   vertices = c.copy_vertices.ensures;
   polygons = c.copy_corners.ensures;
   neighbours = c.copy_links.ensures;
-  regions = c.copy_regions.ensures;
-  codes = c.copy_codes.ensures;
+  regions = c.copy_tags.ensures.regions;
+  codes = c.copy_tags.ensures.codes;
   flags = c.clear_flags.ensures;
 }

@@ -1,17 +1,15 @@
-use mathlib.Core.Path.{refl, ap, ◌∙◌}
+-- `outputs::tags::clear_flags` meets its contract: the part that was filled holds zeros, and the rest is as it was. Assumes nothing.
+use mathlib.Core.Path.{◌≡◌, ap, ◌∙◌}
+use Prim.Native.Nat.{ℕ}
 use native.Mathlib.Omega.{arith}
-use Rattle.mem.specs.Slice.{splice}
-use Rattle.mem.specs.Tab.{filled_none, filled_more, filled_all, tab_const}
+use lib.ListN.{length, replicate, length-replicate}
+use Rattle.mem.specs.Slice.{splice, lent_back, length_view}
 use Rattle.outputs.proofs.tags.clear_flags.Goals as goal
 
--- src/tags.rt:41:5
-pub loop-k-init : goal.loop-k-init
-loop-k-init c = filled_none _ _ _ _
-
--- src/tags.rt:41:5
-pub loop-k-preserved : goal.loop-k-preserved
-loop-k-preserved c = filled_more c.loop-k.invariant _ _ (omega arith) refl c.loop-k-test.true
-
--- src/tags.rt:36:1
 pub returns : goal.returns
-returns c = filled_all c.loop-k.invariant c.loop-k-test.false ∙ ap (splice c.args.out.now 0) (tab_const _ 0)
+returns c =
+    let g = c.args in
+    let zeros : c.fill.new.self ≡ replicate g.np 0 =
+    c.fill.ensures.after (λ y k. k) ∙ ap (λ (k : ℕ). replicate k 0) (length_view g.out.now 0 g.np (omega arith)) in
+    lent_back g.out.now 0 g.np c.fill.new.self (ap length zeros ∙ length-replicate g.np 0) (omega arith)
+    ∙ ap (splice g.out.now 0) zeros

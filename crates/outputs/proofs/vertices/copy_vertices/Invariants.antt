@@ -1,7 +1,6 @@
 -- `outputs::vertices::copy_vertices` meets its contract: the words of the vertices so far are written. Assumes nothing.
-use Prim.Native.Nat.{◌-◌}
 use Rattle.outputs.proofs.Copies.{VerticesCopied}
 use Rattle.outputs.proofs.vertices.copy_vertices.Given as goal
 
 abbrev pub invariant-loop-k : goal.invariant-loop-k
-invariant-loop-k l = VerticesCopied l.work l.vo l.nv l.initial.out l.out l.k
+invariant-loop-k l = VerticesCopied l.work l.at.vo l.at.nv l.initial.out l.out l.k

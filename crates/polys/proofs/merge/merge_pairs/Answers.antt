@@ -3,44 +3,44 @@ use Rattle.polys.proofs.Rounds.{going_begin, going_some, going_join, going_renew
 use borrow.Author.Rules.{rules}
 use Rattle.polys.proofs.merge.merge_pairs.Goals as goal
 
-pub loop-m-init : goal.loop-m-init
-loop-m-init c = going_begin c.requires.0.rows c.requires.1 c.requires.0
+pub loop-f-init : goal.loop-f-init
+loop-f-init g c = going_begin c.args.f c.requires.0.rows c.requires.1 c.requires.0
 
-pub best_if-m-requires : goal.best_if-m-requires
-best_if-m-requires c = c.loop-m.invariant.kept
+pub best-m-requires : goal.best-m-requires
+best-m-requires g c = c.loop-f.invariant.kept
 
 pub shape_of-work-then-m-eq0 : goal.shape_of-work-then-m-eq0
-shape_of-work-then-m-eq0 c = c.loop-m.invariant.size
+shape_of-work-then-m-eq0 g c = c.loop-f.invariant.size
 
 pub returns-then-m-eq0 : goal.returns-then-m-eq0
-returns-then-m-eq0 c =
-    going_end c.requires.0.rows c.requires.1 c.loop-m.invariant _ c.best_if-m.ensures c.requires.2 (search rules)
+returns-then-m-eq0 g c =
+    going_end c.args.f c.requires.0.rows c.requires.1 c.loop-f.invariant _ c.best-m.ensures c.requires.2 (search rules)
 
 pub join_pair-requires : goal.join_pair-requires
-join_pair-requires c =
-    going_join c.requires.0.rows c.requires.1 c.loop-m.invariant _ c.best_if-m.ensures (search rules)
+join_pair-requires g c =
+    going_join c.args.f c.requires.0.rows c.requires.1 c.loop-f.invariant _ c.best-m.ensures (search rules)
 
 pub overflow_sub-n : goal.overflow_sub-n
-overflow_sub-n c =
-    let left-some : 0 < c.loop-m.n = going_some c.requires.0.rows c.requires.1 c.loop-m.invariant _ c.best_if-m.ensures (search rules) in
+overflow_sub-n g c =
+    let left-some : 0 < c.loop-f.n = going_some c.args.f c.requires.0.rows c.requires.1 c.loop-f.invariant _ c.best-m.ensures (search rules) in
     let h = left-some in search rules
 
-pub renew_if-requires : goal.renew_if-requires
-renew_if-requires c =
-    let some-length : 0 < c.best_if-m.result.length = search rules in
+pub renew-requires : goal.renew-requires
+renew-requires g c =
+    let some-length : 0 < c.best-m.result.length = search rules in
     let j = c.join_pair in
-    going_renew c.requires.0.rows c.requires.1 c.loop-m.invariant _ c.best_if-m.ensures
+    going_renew c.args.f c.requires.0.rows c.requires.1 c.loop-f.invariant _ c.best-m.ensures
     (some-length) j.auto.work j.ensures
 
-pub loop-m-smaller : goal.loop-m-smaller
-loop-m-smaller c =
-    let left-some : 0 < c.loop-m.n = going_some c.requires.0.rows c.requires.1 c.loop-m.invariant _ c.best_if-m.ensures (search rules) in
+pub loop-f-smaller : goal.loop-f-smaller
+loop-f-smaller g c =
+    let left-some : 0 < c.loop-f.n = going_some c.args.f c.requires.0.rows c.requires.1 c.loop-f.invariant _ c.best-m.ensures (search rules) in
     let h = left-some in search rules
 
-pub loop-m-preserved : goal.loop-m-preserved
-loop-m-preserved c =
-    let some-length : 0 < c.best_if-m.result.length = search rules in
+pub loop-f-preserved : goal.loop-f-preserved
+loop-f-preserved g c =
+    let some-length : 0 < c.best-m.result.length = search rules in
     let j = c.join_pair in
-    let n = c.renew_if in
-    going_more c.requires.0.rows c.requires.1 c.loop-m.invariant _ c.best_if-m.ensures
+    let n = c.renew in
+    going_more c.args.f c.requires.0.rows c.requires.1 c.loop-f.invariant _ c.best-m.ensures
     (some-length) j.auto.work j.ensures n.auto.work n.ensures

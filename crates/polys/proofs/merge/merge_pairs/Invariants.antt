@@ -2,8 +2,8 @@
 use Rattle.polys.proofs.Rounds.{Going}
 use Rattle.polys.proofs.merge.merge_pairs.Given as goal
 
-abbrev pub invariant-loop-m : goal.invariant-loop-m
-invariant-loop-m l = Going l.initial.work l.vo l.nv l.o l.np l.nvp l.ro l.kept l.work l.n
+abbrev pub invariant-loop-f : goal.invariant-loop-f
+invariant-loop-f g l = Going l.initial.work l.f g.S.Search.kept l.work l.n
 
-abbrev pub decreases-loop-m : goal.decreases-loop-m
-decreases-loop-m l = l.n
+abbrev pub decreases-loop-f : goal.decreases-loop-f
+decreases-loop-f g l = l.n

@@ -6,10 +6,10 @@ use Rattle.polys.proofs.rows.is_reached.Goals as goal
 pub returns-then-q-r : goal.returns-then-q-r
 returns-then-q-r c = sym (reached_before c.requires c.args.q c.args.l c.if-q-r.true)
 
-pub returns-then-np-q : goal.returns-then-np-q
-returns-then-np-q c =
-    sym (reached_past c.requires c.args.q c.args.l c.if-q-r.false c.if-np-q.true)
+pub returns-then-f-q : goal.returns-then-f-q
+returns-then-f-q c =
+    sym (reached_past c.requires c.args.q c.args.l c.if-q-r.false c.if-f-q.true)
 
 pub returns : goal.returns
 returns c =
-    reached_if c.requires c.args.q c.args.l c.if-q-r.false c.if-np-q.false c.stamped_value.ensures c.is_rival.ensures
+    reached_if c.requires c.args.q c.args.l c.if-q-r.false c.if-f-q.false c.stamped_value.ensures c.is_rival.ensures

@@ -3,7 +3,4 @@ use Rattle.polys.proofs.Keeps.{Keeping}
 use Rattle.polys.proofs.rows.renew_rows.Given as goal
 
 abbrev pub invariant-loop-r : goal.invariant-loop-r
-invariant-loop-r l = Keeping l.initial.work l.vo l.nv l.o l.np l.nvp l.ro l.work l.r
-
-abbrev pub decreases-loop-r : goal.decreases-loop-r
-decreases-loop-r l = l.r
+invariant-loop-r l = Keeping l.initial.work l.f l.work l.r

@@ -1,5 +1,4 @@
 -- `polys::side::shared_by` meets its contract: as long as nothing is found, the answer is that of the sides that are left. Assumes nothing.
-use Prim.Native.Nat.{◌-◌}
 use Rattle.records.specs.Values.{corners_from}
 use Rattle.polys.proofs.Sides.{RowFrom}
 use Rattle.polys.proofs.side.shared_by.Given as goal

@@ -9,7 +9,7 @@ pub returns-in-Some : goal.returns-in-Some
 returns-in-Some c = rows_hit _ _ c.loop-i.invariant _ _ (search rules) c.shared_by.ensures c.in-Some.is
 
 pub loop-i-preserved : goal.loop-i-preserved
-loop-i-preserved c = rows_next _ _ c.loop-i.invariant (search rules) c.shared_by.ensures c.in-None.is
+loop-i-preserved c = rows_next _ _ c.loop-i.invariant (search rules) c.shared_by.ensures c.in_default.is
 
 pub returns : goal.returns
 returns c = rows_none _ _ c.loop-i.invariant (search rules)

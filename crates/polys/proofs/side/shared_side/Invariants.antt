@@ -5,6 +5,3 @@ use Rattle.polys.proofs.side.shared_side.Given as goal
 
 abbrev pub invariant-loop-i : goal.invariant-loop-i
 invariant-loop-i l = Rows (corners_from l.work l.at) (corners_from l.work l.bt) l.i
-
-abbrev pub decreases-loop-i : goal.decreases-loop-i
-decreases-loop-i l = l.i

@@ -1,5 +1,4 @@
 -- `polys::stamp::stamp_from` meets its contract: the corners that are left, from the stamp so far, give the stamp of all. Assumes nothing.
-use Prim.Native.Nat.{◌-◌}
 use Rattle.mem.specs.Loops.{Doing}
 use Rattle.records.specs.Values.{corners_from}
 use Rattle.laws.specs.Stamps.{stamp_with, stamp_of}

@@ -22,10 +22,10 @@ overflow_add-count_from c =
     let k = few_from (stands_in c.requires.0 _ c.requires.2) in
     search rules
 
-pub returns-then-nvp-count_from : goal.returns-then-nvp-count_from
-returns-then-nvp-count_from c =
+pub returns-then-f-count_from : goal.returns-then-f-count_from
+returns-then-f-count_from c =
     value_too_big c.requires.0 _ _ c.requires.1 c.requires.2 c.count_from.ensures c.count_from-2.ensures
-    c.if-nvp-count_from.true c.no_pair.ensures
+    c.if-f-count_from.true c.no_pair.ensures
 
 pub shared_side-requires : goal.shared_side-requires
 shared_side-requires c =
@@ -34,19 +34,19 @@ shared_side-requires c =
 pub pair_of-requires : goal.pair_of-requires
 pair_of-requires c =
     let here : Some (c.in-Some.i, c.in-Some.j)
-    ≡ shared_side ((corners_from c.args.work.now (c.args.o + c.args.a * polygon_size)))
-    ((corners_from c.args.work.now (c.args.o + c.args.b * polygon_size))) = rw c.in-Some.is at c.shared_side.ensures in
+    ≡ shared_side ((corners_from c.args.work.now (c.args.f.o + c.args.a * polygon_size)))
+    ((corners_from c.args.work.now (c.args.f.o + c.args.b * polygon_size))) = rw c.in-Some.is at c.shared_side.ensures in
     joint_of c.requires.0 _ _ _ _ c.requires.1 c.requires.2 (here)
 
 pub returns-in-Some : goal.returns-in-Some
 returns-in-Some c =
     let here : Some (c.in-Some.i, c.in-Some.j)
-    ≡ shared_side ((corners_from c.args.work.now (c.args.o + c.args.a * polygon_size)))
-    ((corners_from c.args.work.now (c.args.o + c.args.b * polygon_size))) = rw c.in-Some.is at c.shared_side.ensures in
+    ≡ shared_side ((corners_from c.args.work.now (c.args.f.o + c.args.a * polygon_size)))
+    ((corners_from c.args.work.now (c.args.f.o + c.args.b * polygon_size))) = rw c.in-Some.is at c.shared_side.ensures in
     value_at_sides c.requires.0 _ _ c.requires.1 c.requires.2 c.count_from.ensures c.count_from-2.ensures _ _
-    c.if-nvp-count_from.false (here) c.pair_of.ensures
+    c.if-f-count_from.false (here) c.pair_of.ensures
 
 pub returns-in-None : goal.returns-in-None
 returns-in-None c =
     value_at_none c.requires.0 _ _ c.requires.1 c.requires.2 c.count_from.ensures c.count_from-2.ensures
-    c.if-nvp-count_from.false (rw c.in-None.is at c.shared_side.ensures) c.no_pair-in-None.ensures
+    c.if-f-count_from.false (rw c.in-None.is at c.shared_side.ensures) c.no_pair-in-None.ensures

@@ -1,10 +1,10 @@
--- `links::sides::record_side` meets its contract: a side that runs from a lower to a higher vertex is one record more. Assumes nothing.
+-- `links::sides::Recording` meets its contract: a side that runs from a lower to a higher vertex is one record more. Assumes nothing.
 use mathlib.Core.Path.{◌≡◌}
 use Rattle.records.specs.Layout.{most_corners}
 use lib.ListN.{length}
 use Rattle.links.proofs.Rounds.{start_in, recorded, unrecorded}
 use borrow.Author.Rules.{rules}
-use Rattle.links.proofs.sides.record_side.Goals as goal
+use Rattle.links.proofs.sides.RecordingStep.take.Goals as goal
 
 -- src/sides.rt:47:9
 pub put_edge-requires : goal.put_edge-requires

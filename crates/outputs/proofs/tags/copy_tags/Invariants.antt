@@ -1,0 +1,11 @@
+-- `outputs::tags::copy_tags` meets its contract: the regions and the area codes of the polygons so far are written. Assumes nothing.
+use Rattle.mem.specs.Tab.{Filled}
+use Rattle.rules.specs.Mesh.{polygon_at}
+use Rattle.records.specs.Layout.{polygons_at}
+use Rattle.outputs.proofs.tags.copy_tags.Given as goal
+
+abbrev pub invariant-loop-i : goal.invariant-loop-i
+invariant-loop-i l = record {
+  regions : Filled l.initial.regions 0 (λ j. (polygon_at (polygons_at l.work l.at.o l.at.np) j).region) l.at.np l.regions l.i;
+  codes : Filled l.initial.codes 0 (λ j. (polygon_at (polygons_at l.work l.at.o l.at.np) j).code) l.at.np l.codes l.i;
+}
