@@ -1,11 +1,11 @@
 // The refusals in their order: 40 to 42, which say whether a mesh is sound, and then 43 and 44.
-ghost use Rattle.std.specs.Prelude.{◌≡◌, cond, ◌-ℤ◌, Ok};
+ghost use Rattle.std.specs.Prelude.{◌≡◌, cond, ◌-ℤ◌, Ok, Err};
 ghost use Rattle.rules.specs.Plane.{is_zero};
 ghost use Rattle.rules.specs.Areas.{stored_area};
 ghost use Rattle.rules.specs.Handed.{polygon_count, first_fault, corners_hold, links_hold, or_fault, soundness, GoodBuffers, Consistent};
 ghost use Rattle.rules.specs.Checker.{portals_hold, sound_verdict, verdict};
 ghost use Rattle.rules.specs.declared.Fault.TheVariants.{BadCorners, BadLinks};
-ghost use Rattle.rules.specs.declared.Verdict.TheVariants.{Accepted, BadArea};
+ghost use Rattle.rules.specs.declared.Objection.TheVariants.{BadArea};
 ghost use Rattle.stored.specs.Stored.{stored_in, MeshReady};
 ghost use Rattle.checker.specs.Asked.{handed_in, links_in, claim_in};
 ghost use Rattle.checker.specs.Steps.{RowsReady};
@@ -14,7 +14,7 @@ use crate::buffers::buffers_hold;
 use crate::corners::first_bad_corners;
 use crate::linked::first_bad_links;
 use crate::portals::first_bad_portals;
-use rules::{Fault, VERTEX_STRIDE, Verdict};
+use rules::{Fault, Objection, VERTEX_STRIDE};
 use stored::area::mesh_area;
 
 // 42, of np polygons.
@@ -60,14 +60,14 @@ fn area_verdict(
     claim: i64,
     vertices: &[u16],
     polygons: &[u16],
-) -> Verdict
+) -> Result<(), Objection>
     requires { MeshReady nvp np nv vertices.now polygons.now }
-    ensures { result ≡ cond (is_zero (stored_area (stored_in nvp np nv vertices.now polygons.now) -ℤ claim)) Accepted BadArea }
+    ensures { result ≡ cond (is_zero (stored_area (stored_in nvp np nv vertices.now polygons.now) -ℤ claim)) (Ok tt) (Err BadArea) }
 {
     if mesh_area(nvp, np, nv, vertices, polygons) == claim {
-        return Verdict::Accepted;
+        return Ok(());
     }
-    Verdict::BadArea
+    Err(Objection::BadArea)
 }
 
 // 43 and 44, of a sound mesh.
@@ -80,14 +80,14 @@ fn sound_verdict(
     vertices: &[u16],
     polygons: &[u16],
     links: &[u32],
-) -> Verdict
+) -> Result<(), Objection>
     requires { Consistent (handed_in nvp vertices.now polygons.now links.now) }
     ensures { result ≡ (let c = claim_in nvp w h border claim vertices.now polygons.now links.now in
         sound_verdict c (first_fault (portals_hold c) (polygon_count c.mesh))) }
 {
     let np = polygons.len() / nvp;
     match first_bad_portals(nvp, np, w, h, border, vertices, polygons, links) {
-        Some(i) => Verdict::BadPortals(i as u64),
+        Some(i) => Err(Objection::BadPortals(i as u64)),
         None => {
             area_verdict(
                 nvp,
@@ -111,14 +111,9 @@ pub fn check_mesh(
     vertices: &[u16],
     polygons: &[u16],
     links: &[u32],
-) -> Verdict
+) -> Result<(), Objection>
     ensures { result ≡ verdict (claim_in nvp w h border claim vertices.now polygons.now links.now) }
 {
-    let sound = soundness_of(nvp, vertices, polygons, links);
-    match sound {
-        Ok(()) => {
-            sound_verdict(nvp as usize, w, h, border, claim, vertices, polygons, links)
-        }
-        Err(fault) => Verdict::Unsound(fault),
-    }
+    soundness_of(nvp, vertices, polygons, links)?;
+    sound_verdict(nvp as usize, w, h, border, claim, vertices, polygons, links)
 }

@@ -38,12 +38,9 @@ pub fn first_bad_corners(nvp: usize, nv: usize, np: usize, polygons: &[u16]) -> 
     requires { np * nvp ≤ length polygons.now }
     ensures { result ≡ first_fault (λ i. row_holds nv (row_at nvp polygons.now i)) np }
 {
-    let mut i = 0;
-    while i < np {
+    for i in 0..np {
         let from = i * nvp;
-        if row_holds(&polygons[from..from + nvp], nv) {
-            i += 1;
-        } else {
+        if !row_holds(&polygons[from..from + nvp], nv) {
             return Some(i);
         }
     }

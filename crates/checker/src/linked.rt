@@ -21,11 +21,8 @@ fn sides_hold(
     requires { PolygonAt (links_in nvp polygons.now links.now) np i own.now mine.now }
     ensures { result ≡ all_of (link_holds (mesh_in (links_in nvp polygons.now links.now)) i) 0 (length own.now) }
 {
-    let mut j = 0;
-    while j < own.len() {
-        if link_holds(nvp, np, polygons, links, i, own, mine, j) {
-            j += 1;
-        } else {
+    for j in 0..own.len() {
+        if !link_holds(nvp, np, polygons, links, i, own, mine, j) {
             return false;
         }
     }
@@ -59,11 +56,8 @@ pub fn first_bad_links(nvp: usize, np: usize, polygons: &[u16], links: &[u32]) -
     requires { RowsReady (links_in nvp polygons.now links.now) × (np ≡ polygon_count (links_in nvp polygons.now links.now)) }
     ensures { result ≡ first_fault (links_hold (links_in nvp polygons.now links.now)) np }
 {
-    let mut i = 0;
-    while i < np {
-        if links_hold(nvp, np, polygons, links, i) {
-            i += 1;
-        } else {
+    for i in 0..np {
+        if !links_hold(nvp, np, polygons, links, i) {
             return Some(i);
         }
     }

@@ -67,11 +67,8 @@ fn sides_bear(vertices: &[u16], w: u16, h: u16, border: u16, own: &[u16], mine: 
     requires { SidesReady vertices.now own.now mine.now }
     ensures { result ≡ all_of (side_bears vertices.now w h border own.now mine.now) 0 (length own.now) }
 {
-    let mut j = 0;
-    while j < own.len() {
-        if side_bears(vertices, w, h, border, own, mine, j) {
-            j += 1;
-        } else {
+    for j in 0..own.len() {
+        if !side_bears(vertices, w, h, border, own, mine, j) {
             return false;
         }
     }
@@ -120,11 +117,8 @@ pub fn first_bad_portals(
         × (np ≡ polygon_count (handed_in nvp vertices.now polygons.now links.now)) }
     ensures { result ≡ first_fault (portals_hold (unclaimed_in nvp w h border vertices.now polygons.now links.now)) np }
 {
-    let mut i = 0;
-    while i < np {
-        if portals_hold(nvp, w, h, border, vertices, polygons, links, i) {
-            i += 1;
-        } else {
+    for i in 0..np {
+        if !portals_hold(nvp, w, h, border, vertices, polygons, links, i) {
             return Some(i);
         }
     }

@@ -34,14 +34,14 @@ loop-i-preserved c =
     let said : c.row_holds.result ≡ row_holds c.args.nv (row_at c.args.nvp c.args.polygons.now c.loop-i.i) = let from = c.loop-i.i * c.args.nvp in
     let e : from + c.args.nvp - from ≡ c.args.nvp = omega arith in
     c.row_holds.ensures ∙ ap (λ (n : ℕ). row_holds c.args.nv (view c.args.polygons.now from n)) e in
-    fault_next c.loop-i.invariant c.loop-i-test.true (sym said ∙ c.if-row_holds.true)
+    fault_next c.loop-i.invariant c.loop-i-test.true (sym said ∙ c.if-not-row_holds.false)
 
-pub returns-else-row_holds : goal.returns-else-row_holds
-returns-else-row_holds c =
+pub returns-then-not-row_holds : goal.returns-then-not-row_holds
+returns-then-not-row_holds c =
     let said : c.row_holds.result ≡ row_holds c.args.nv (row_at c.args.nvp c.args.polygons.now c.loop-i.i) = let from = c.loop-i.i * c.args.nvp in
     let e : from + c.args.nvp - from ≡ c.args.nvp = omega arith in
     c.row_holds.ensures ∙ ap (λ (n : ℕ). row_holds c.args.nv (view c.args.polygons.now from n)) e in
-    fault_here c.loop-i.invariant c.loop-i-test.true (sym said ∙ c.if-row_holds.false)
+    fault_here c.loop-i.invariant c.loop-i-test.true (sym said ∙ c.if-not-row_holds.true)
 
 pub returns : goal.returns
 returns c = fault_end c.loop-i.invariant c.loop-i-test.false
