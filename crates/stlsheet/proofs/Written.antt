@@ -104,7 +104,7 @@ module _ (m : Handed) (s : Scale) (v : List ℕ) {q : Result ℕ StlRefusal} {w 
 pub sound_written : (h : Handed) (s : Scale) (m : Mesh) (room : ℕ) → soundness h ≡ (Ok tt) → mesh_count h ≡ facet_count m.polygons → mesh_file h s ≡ carved s m
     → 84 + facet_count m.polygons * 50 ≤ room
     → elim (is_scale s) [ true ↦ carved s m | false ↦ refused_text 70 0 ] ≡ written_text (mesh_file h s) (stl_reply h s room)
-unfolding file_length written_text
+unfolding file_length written_text stl_refusal_number stl_refusal_second
 sound_written h s m room sound count file fits =
     rw (sound_reply h s room sound, count, file, fits_written (facet_count m.polygons) room fits)
     (by_test (is_scale s)
