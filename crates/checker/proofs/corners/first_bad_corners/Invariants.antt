@@ -6,5 +6,5 @@ use Rattle.checker.proofs.Looking.{Faultless}
 use Rattle.checker.proofs.corners.first_bad_corners.Given as goal
 
 abbrev pub invariant-loop-i : goal.invariant-loop-i
-invariant-loop-i l = Faultless (λ k. row_holds l.nv (row_at l.nvp l.polygons k)) (first_fault (λ k. row_holds l.nv (row_at l.nvp l.polygons k)) l.np)
+invariant-loop-i l = Faultless (λ k. row_holds l.nv (row_at l.mesh.nvp l.mesh.polygons.now k)) (first_fault (λ k. row_holds l.nv (row_at l.mesh.nvp l.mesh.polygons.now k)) l.np)
     l.np l.i

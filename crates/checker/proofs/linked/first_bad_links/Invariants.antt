@@ -6,4 +6,4 @@ use Rattle.checker.proofs.Looking.{Faultless}
 use Rattle.checker.proofs.linked.first_bad_links.Given as goal
 
 abbrev pub invariant-loop-i : goal.invariant-loop-i
-invariant-loop-i l = Faultless (links_hold (links_in l.nvp l.polygons l.links)) (first_fault (links_hold (links_in l.nvp l.polygons l.links)) l.np) l.np l.i
+invariant-loop-i l = Faultless (links_hold (links_in l.mesh.nvp l.mesh.polygons.now l.mesh.links.now)) (first_fault (links_hold (links_in l.mesh.nvp l.mesh.polygons.now l.mesh.links.now)) l.np) l.np l.i

@@ -6,5 +6,5 @@ use Rattle.checker.proofs.Looking.{Passing}
 use Rattle.checker.proofs.linked.sides_hold.Given as goal
 
 abbrev pub invariant-loop-j : goal.invariant-loop-j
-invariant-loop-j l = let holds = link_holds (mesh_in (links_in l.nvp l.polygons l.links)) l.i in
+invariant-loop-j l = let holds = link_holds (mesh_in (links_in l.mesh.nvp l.mesh.polygons.now l.mesh.links.now)) l.i in
     Passing holds (all_of holds 0 (length l.own)) (length l.own) l.j

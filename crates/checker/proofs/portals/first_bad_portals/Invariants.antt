@@ -7,5 +7,5 @@ use Rattle.checker.proofs.Looking.{Faultless}
 use Rattle.checker.proofs.portals.first_bad_portals.Given as goal
 
 abbrev pub invariant-loop-i : goal.invariant-loop-i
-invariant-loop-i l = let holds = portals_hold (unclaimed_in l.nvp l.w l.h l.border l.vertices l.polygons l.links) in
+invariant-loop-i l = let holds = portals_hold (unclaimed_in l.mesh.nvp l.grid.w l.grid.h l.grid.border l.mesh.vertices.now l.mesh.polygons.now l.mesh.links.now) in
     Faultless holds (first_fault holds l.np) l.np l.i

@@ -6,5 +6,5 @@ use Rattle.checker.proofs.Looking.{Passing}
 use Rattle.checker.proofs.portals.sides_bear.Given as goal
 
 abbrev pub invariant-loop-j : goal.invariant-loop-j
-invariant-loop-j l = let bears = side_bears l.vertices l.w l.h l.border l.own l.mine in
+invariant-loop-j l = let bears = side_bears l.vertices l.grid.w l.grid.h l.grid.border l.own l.mine in
     Passing bears (all_of bears 0 (length l.own)) (length l.own) l.j
