@@ -1,24 +1,33 @@
 // The mender.
 ghost use Rattle.std.specs.Prelude.{◌≡◌, length, get_or};
-ghost use Rattle.rules.specs.MendCall.{mend_outcome, mend_reply_of, mend_words, mend_exit, one_contour};
+ghost use Rattle.rules.specs.MendCall.{mend_outcome, mend_reply_of, mend_refusal_number, mend_words, mend_exit, one_contour};
 ghost use Rattle.mend.specs.Call.{lent_of};
 ghost use Rattle.capi.specs.Numbers.{three_length};
 
 use crate::three::put_three;
 use mend::job::{mend, mend_job};
-use rules::MendReply;
+use rules::{MendRefusal, Mended};
+
+// The number of a mender's refusal.
+fn mend_refusal_number(refusal: MendRefusal) -> u32
+    ensures { result ≡ mend_refusal_number refusal }
+{
+    match refusal {
+        MendRefusal::NotWhole => 80,
+        MendRefusal::LengthsDisagree => 2,
+        MendRefusal::ShortScratch => 82,
+        MendRefusal::ListFull => 81,
+    }
+}
 
 // The numbers of a mender's reply; the result is the reply's number.
-fn put_mended(reply: MendReply, words: &mut [u64]) -> u32
+fn put_mended(reply: Result<Mended, MendRefusal>, words: &mut [u64]) -> u32
     requires { length words.old ≡ three_length }
     ensures { (result ≡ get_or (mend_words reply) 0 0) × (words.new ≡ mend_words reply) }
 {
     match reply {
-        MendReply::Mended(lost, kept) => put_three(words, 0, lost, kept),
-        MendReply::NotWhole => put_three(words, 80, 0, 0),
-        MendReply::LengthsDisagree => put_three(words, 2, 0, 0),
-        MendReply::ShortScratch => put_three(words, 82, 0, 0),
-        MendReply::ListFull => put_three(words, 81, 0, 0),
+        Ok(mended) => put_three(words, 0, mended.lost, mended.kept),
+        Err(refusal) => put_three(words, mend_refusal_number(refusal), 0, 0),
     }
 }
 

@@ -1,6 +1,7 @@
 -- The order of the refusals: what each search finds is what the rules' order asks for, and the buffers that a search doesn't see don't matter to it.
 -- Assumes nothing.
-use Rattle.std.specs.Prelude.{Option, Some, None, Result, Ok, Err, ⊤}
+use Rattle.std.specs.Prelude.{Option, Some, None, Result, Ok, Err, ⊤, IsErrAnd}
+use Rattle.std.proofs.lemmas.Result.{err_from_is_err_and}
 use mathlib.Core.Path.{◌≡◌, refl, sym, ◌∙◌, ap}
 use mathlib.Core.Bool.{Bool, true, false, not, cond}
 use mathlib.Core.Logic.{◌≢◌}
@@ -20,8 +21,8 @@ use Rattle.rules.specs.Exits.{up_to_none, stored_polygon, stored_links, decoded}
 use Rattle.rules.specs.Areas.{stored_area}
 use Rattle.rules.specs.declared.Fault.{Fault}
 use Rattle.rules.specs.declared.Fault.TheVariants.{BadLinks}
-use Rattle.rules.specs.declared.Verdict.{Verdict}
-use Rattle.rules.specs.declared.Verdict.TheVariants.{Accepted, Unsound, BadPortals, BadArea}
+use Rattle.rules.specs.declared.Objection.{Objection}
+use Rattle.rules.specs.declared.Objection.TheVariants.{Unsound, BadPortals, BadArea}
 use Rattle.rules.specs.Handed.{vertex_count, polygon_count, buffers_of, mesh_in, link_word, corners_at, first_fault, corners_hold}
 use Rattle.rules.specs.Handed.{link_holds, links_hold, or_fault, soundness, GoodBuffers, Consistent}
 use Rattle.rules.specs.Checker.{Claim, portal_holds, portals_hold, area_holds, sound_verdict, verdict}
@@ -70,8 +71,12 @@ module _ (nvp : ℕ) (vs ps ls : List ℕ) where
 
 -- ---- 43 and 44, of a sound mesh
 
+-- the verdict if the area is right, and if it is not
+abbrev settled : Bool → Result ⊤ Objection
+settled t = cond t (Ok tt) (Err BadArea)
+
 -- the verdict on it
-abbrev pub verdict_on : Claim → Verdict
+abbrev pub verdict_on : Claim → Result ⊤ Objection
 verdict_on c = sound_verdict c (first_fault (portals_hold c) (polygon_count c.mesh))
 
 module _ (nvp w h border : ℕ) (total : ℤ) (vs ps ls : List ℕ) where
@@ -87,13 +92,13 @@ module _ (nvp w h border : ℕ) (total : ℤ) (vs ps ls : List ℕ) where
   measured = stored_area (stored_in nvp (length ps / nvp) (length vs / vertex_stride) vs ps)
 
   -- a claim that is handed on is the same number
-  module _ (b : SFits w64 total) {r : Verdict} where
-    pub area_last : r ≡ cond (is_zero (measured -ℤ to_z w64 (of_z w64 total))) Accepted BadArea
-        → r ≡ cond (area_holds (claim_in nvp w h border total vs ps ls)) Accepted BadArea
+  module _ (b : SFits w64 total) {r : Result ⊤ Objection} where
+    pub area_last : r ≡ cond (is_zero (measured -ℤ to_z w64 (of_z w64 total))) (Ok tt) (Err BadArea)
+        → r ≡ cond (area_holds (claim_in nvp w h border total vs ps ls)) (Ok tt) (Err BadArea)
     unfolding area_holds mesh_in vertex_count polygon_count
     area_last e =
-        e ∙ ap (λ (z : ℤ). cond (is_zero (measured -ℤ z)) Accepted BadArea) (reads_of b).reads
-        ∙ ap (λ (a : ℤ). cond (is_zero (a -ℤ total)) Accepted BadArea)
+        e ∙ ap (λ (z : ℤ). settled (is_zero (measured -ℤ z))) (reads_of b).reads
+        ∙ ap (λ (a : ℤ). settled (is_zero (a -ℤ total)))
         (sym (area_stored nvp (length ps / nvp) (length vs / vertex_stride) (buffers_of (handed_in nvp vs ps ls))))
 
     pub sound_last : r ≡ verdict_on (claim_in nvp w h border (to_z w64 (of_z w64 total)) vs ps ls) → r ≡ verdict_on (claim_in nvp w h border total vs ps ls)
@@ -101,27 +106,31 @@ module _ (nvp w h border : ℕ) (total : ℤ) (vs ps ls : List ℕ) where
 
 -- what was measured is the claim, or it is not: z is the area, of which the code has the bits
 module _ {z d : ℤ} (claim : ℤ) (q : z ≡ d) where
-  pub area_meets : SFits w64 z → SFits w64 claim → of_z w64 z ≡ of_z w64 claim → Accepted ≡ cond (is_zero (d -ℤ claim)) Accepted BadArea
+  pub area_meets : SFits w64 z → SFits w64 claim → of_z w64 z ≡ of_z w64 claim → Ok tt ≡ settled (is_zero (d -ℤ claim))
   area_meets a b e = rw (of_equal d claim (sym q ∙ sym (reads_of a).reads ∙ ap (to_z w64) e ∙ (reads_of b).reads)) refl
 
-  pub area_differs : of_z w64 z ≢ of_z w64 claim → BadArea ≡ cond (is_zero (d -ℤ claim)) Accepted BadArea
+  pub area_differs : of_z w64 z ≢ of_z w64 claim → Err BadArea ≡ settled (is_zero (d -ℤ claim))
   area_differs n = go (is_zero (d -ℤ claim)) refl
     where
-      go : (t : Bool) → is_zero (d -ℤ claim) ≡ t → BadArea ≡ cond t Accepted BadArea
+      go : (t : Bool) → is_zero (d -ℤ claim) ≡ t → Err BadArea ≡ settled t
       go true e = absurd (n (ap (of_z w64) (q ∙ equal_of d claim e)))
       go false e = refl
 
-pub portals_found : (c : Claim) {f g : Option ℕ} {i : ℕ} → f ≡ g → f ≡ Some i → BadPortals i ≡ sound_verdict c g
+pub portals_found : (c : Claim) {f g : Option ℕ} {i : ℕ} → f ≡ g → f ≡ Some i → Err (BadPortals i) ≡ sound_verdict c g
 unfolding sound_verdict
 portals_found c e q = rw (sym e ∙ q) refl
 
-pub portals_none : (c : Claim) {f g : Option ℕ} {r : Verdict} → f ≡ g → f ≡ None → r ≡ cond (area_holds c) Accepted BadArea → r ≡ sound_verdict c g
+pub portals_none : (c : Claim) {f g : Option ℕ} {r : Result ⊤ Objection} → f ≡ g → f ≡ None → r ≡ cond (area_holds c) (Ok tt) (Err BadArea) → r ≡ sound_verdict c g
 unfolding sound_verdict
 portals_none c e q a = rw (sym e ∙ q) a
 
-pub unsound : (c : Claim) (f : Fault) → soundness c.mesh ≡ Err f → Unsound f ≡ verdict c
+pub unsound : (c : Claim) (f : Fault) → soundness c.mesh ≡ Err f → Err (Unsound f) ≡ verdict c
 unfolding verdict
 unsound c f e = rw (e, verdict) refl
+
+-- what a `?` passes on, as another error
+pub passed_on : {A E : Type 0} {r : Result A E} {x : E} → IsErrAnd r (λ e. e ≡ x) → r ≡ Err x
+passed_on {r} i = let x = err_from_is_err_and r i in x.1 ∙ ap Err x.2
 
 -- a sound mesh may be measured
 pub mesh_ready : (nvp : ℕ) (vs ps ls : List ℕ) → Consistent (handed_in nvp vs ps ls) → MeshReady nvp (length ps / nvp) (length vs / vertex_stride) vs ps

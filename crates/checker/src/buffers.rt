@@ -2,10 +2,11 @@
 ghost use Rattle.std.specs.Prelude.{◌≡◌, ◌+◌, ◌*◌, ◌≤◌, length};
 ghost use Rattle.rules.specs.Checks.{vertex_stride, is_high};
 ghost use Rattle.rules.specs.Handed.{buffers_hold};
-ghost use Rattle.checker.specs.Asked.{handed_in};
+ghost use Rattle.checker.specs.Asked.{handed};
 ghost use Rattle.stored.specs.Stored.{vertex_in};
 ghost use Rattle.checker.specs.Steps.{grid_holds};
 
+use crate::mesh::Mesh;
 use rules::VERTEX_STRIDE;
 
 // "over 65,535 vertices or polygons" are refused.
@@ -34,20 +35,20 @@ fn are_in_grid(vertices: &[u16], n: usize) -> bool
 }
 
 // Whether 40 passes. nvp comes first, since the polygons are counted by it; then the counts, so that no product wraps.
-pub fn buffers_hold(nvp: usize, vertices: &[u16], polygons: &[u16], links: &[u32]) -> bool
-    ensures { result ≡ buffers_hold (handed_in nvp vertices.now polygons.now links.now) }
+pub fn buffers_hold(mesh: &Mesh<'_>) -> bool
+    ensures { result ≡ buffers_hold (handed mesh.now) }
 {
-    if (nvp < 3) | (12 < nvp) {
+    if (mesh.nvp < 3) | (12 < mesh.nvp) {
         return false;
     }
-    let nv = vertices.len() / VERTEX_STRIDE;
-    let np = polygons.len() / nvp;
+    let nv = mesh.vertices.len() / VERTEX_STRIDE;
+    let np = mesh.polygons.len() / mesh.nvp;
     if (COUNT_MOST < nv) | (COUNT_MOST < np) {
         return false;
     }
-    let whole = (vertices.len() == nv * VERTEX_STRIDE) & (polygons.len() == np * nvp);
-    if whole & (links.len() == polygons.len()) {
-        return are_in_grid(vertices, nv);
+    let whole = (mesh.vertices.len() == nv * VERTEX_STRIDE) & (mesh.polygons.len() == np * mesh.nvp);
+    if whole & (mesh.links.len() == mesh.polygons.len()) {
+        return are_in_grid(mesh.vertices, nv);
     }
     false
 }

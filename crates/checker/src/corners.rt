@@ -3,6 +3,7 @@ ghost use Rattle.std.specs.Prelude.{◌≡◌, ◌*◌, ◌≤◌, ltb, length, 
 ghost use Rattle.rules.specs.Handed.{all_of, first_fault};
 ghost use Rattle.checker.specs.Steps.{row_holds, row_at};
 
+use crate::mesh::Mesh;
 use crate::unused::are_unused;
 use stored::corners::count_corners;
 
@@ -33,17 +34,14 @@ fn row_holds(row: &[u16], nv: usize) -> bool
     false
 }
 
-// The first of np polygons, of nvp words each, that doesn't.
-pub fn first_bad_corners(nvp: usize, nv: usize, np: usize, polygons: &[u16]) -> Option<usize>
-    requires { np * nvp ≤ length polygons.now }
-    ensures { result ≡ first_fault (λ i. row_holds nv (row_at nvp polygons.now i)) np }
+// The first of np polygons that doesn't.
+pub fn first_bad_corners(mesh: &Mesh<'_>, nv: usize, np: usize) -> Option<usize>
+    requires { np * mesh.now.nvp ≤ length mesh.now.polygons.now }
+    ensures { result ≡ first_fault (λ i. row_holds nv (row_at mesh.now.nvp mesh.now.polygons.now i)) np }
 {
-    let mut i = 0;
-    while i < np {
-        let from = i * nvp;
-        if row_holds(&polygons[from..from + nvp], nv) {
-            i += 1;
-        } else {
+    for i in 0..np {
+        let from = i * mesh.nvp;
+        if !row_holds(&mesh.polygons[from..from + mesh.nvp], nv) {
             return Some(i);
         }
     }

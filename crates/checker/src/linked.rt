@@ -1,31 +1,21 @@
 // 42, polygon by polygon: the links of its sides hold, and past its last corner they are 65,535.
 ghost use Rattle.std.specs.Prelude.{◌≡◌, ◌<◌, length};
 ghost use Rattle.rules.specs.Handed.{polygon_count, mesh_in, all_of, first_fault, link_holds, links_hold};
-ghost use Rattle.checker.specs.Asked.{links_in};
+ghost use Rattle.checker.specs.Asked.{linked};
 ghost use Rattle.checker.specs.Steps.{RowsReady, PolygonAt};
 
 use crate::ends::corners_end;
+use crate::mesh::Mesh;
 use crate::sides::link_holds;
 use crate::unused::are_unlinked;
 
 // Whether the link of each side of polygon i holds; `own` are its corners, and `mine` its links.
-fn sides_hold(
-    nvp: usize,
-    np: usize,
-    polygons: &[u16],
-    links: &[u32],
-    i: usize,
-    own: &[u16],
-    mine: &[u32],
-) -> bool
-    requires { PolygonAt (links_in nvp polygons.now links.now) np i own.now mine.now }
-    ensures { result ≡ all_of (link_holds (mesh_in (links_in nvp polygons.now links.now)) i) 0 (length own.now) }
+fn sides_hold(mesh: &Mesh<'_>, np: usize, i: usize, own: &[u16], mine: &[u32]) -> bool
+    requires { PolygonAt (linked mesh.now) np i own.now mine.now }
+    ensures { result ≡ all_of (link_holds (mesh_in (linked mesh.now)) i) 0 (length own.now) }
 {
-    let mut j = 0;
-    while j < own.len() {
-        if link_holds(nvp, np, polygons, links, i, own, mine, j) {
-            j += 1;
-        } else {
+    for j in 0..own.len() {
+        if !link_holds(mesh, np, i, own, mine, j) {
             return false;
         }
     }
@@ -33,37 +23,26 @@ fn sides_hold(
 }
 
 // Whether the links of polygon i pass.
-fn links_hold(nvp: usize, np: usize, polygons: &[u16], links: &[u32], i: usize) -> bool
-    requires { RowsReady (links_in nvp polygons.now links.now) × (np ≡ polygon_count (links_in nvp polygons.now links.now)) × (i < np) }
-    ensures { result ≡ links_hold (links_in nvp polygons.now links.now) i }
+fn links_hold(mesh: &Mesh<'_>, np: usize, i: usize) -> bool
+    requires { RowsReady (linked mesh.now) × (np ≡ polygon_count (linked mesh.now)) × (i < np) }
+    ensures { result ≡ links_hold (linked mesh.now) i }
 {
-    let from = i * nvp;
-    let to = corners_end(nvp, polygons, i);
-    if sides_hold(
-        nvp,
-        np,
-        polygons,
-        links,
-        i,
-        &polygons[from..to],
-        &links[from..to],
-    ) {
+    let from = i * mesh.nvp;
+    let to = corners_end(mesh, i);
+    if sides_hold(mesh, np, i, &mesh.polygons[from..to], &mesh.links[from..to]) {
         let n = to - from;
-        return are_unlinked(&links[from..from + nvp], n);
+        return are_unlinked(&mesh.links[from..from + mesh.nvp], n);
     }
     false
 }
 
 // The first of np polygons whose links don't.
-pub fn first_bad_links(nvp: usize, np: usize, polygons: &[u16], links: &[u32]) -> Option<usize>
-    requires { RowsReady (links_in nvp polygons.now links.now) × (np ≡ polygon_count (links_in nvp polygons.now links.now)) }
-    ensures { result ≡ first_fault (links_hold (links_in nvp polygons.now links.now)) np }
+pub fn first_bad_links(mesh: &Mesh<'_>, np: usize) -> Option<usize>
+    requires { RowsReady (linked mesh.now) × (np ≡ polygon_count (linked mesh.now)) }
+    ensures { result ≡ first_fault (links_hold (linked mesh.now)) np }
 {
-    let mut i = 0;
-    while i < np {
-        if links_hold(nvp, np, polygons, links, i) {
-            i += 1;
-        } else {
+    for i in 0..np {
+        if !links_hold(mesh, np, i) {
             return Some(i);
         }
     }

@@ -1,10 +1,11 @@
 // 42, side by side: a link names another polygon, with a side that runs the other way and names it back.
 ghost use Rattle.std.specs.Prelude.{◌≡◌, ◌<◌, [], length, get_or};
 ghost use Rattle.rules.specs.Handed.{polygon_count, mesh_in, corners_at, any_of, names_back, link_holds};
-ghost use Rattle.checker.specs.Asked.{links_in};
+ghost use Rattle.checker.specs.Asked.{linked};
 ghost use Rattle.checker.specs.Steps.{RowsReady, PolygonAt};
 
 use crate::ends::corners_end;
+use crate::mesh::Mesh;
 use plane::ring::next;
 use records::polygon::NONE;
 
@@ -39,37 +40,27 @@ fn is_named_back(corners: &[u16], links: &[u32], a: u16, b: u16, i: u32) -> bool
 }
 
 // Whether some side of polygon l does.
-fn polygon_names_back(
-    nvp: usize,
-    polygons: &[u16],
-    links: &[u32],
-    l: usize,
-    a: u16,
-    b: u16,
-    i: u32,
-) -> bool
-    requires { RowsReady (links_in nvp polygons.now links.now) × (l < polygon_count (links_in nvp polygons.now links.now)) }
-    ensures { result ≡ (let s = mesh_in (links_in nvp polygons.now links.now) in
+fn polygon_names_back(mesh: &Mesh<'_>, l: usize, a: u16, b: u16, i: u32) -> bool
+    requires { RowsReady (linked mesh.now) × (l < polygon_count (linked mesh.now)) }
+    ensures { result ≡ (let s = mesh_in (linked mesh.now) in
         any_of (names_back (corners_at s l) (get_or s.links l []) a b i) 0 (length (corners_at s l))) }
 {
-    let from = l * nvp;
-    let to = corners_end(nvp, polygons, l);
-    is_named_back(&polygons[from..to], &links[from..to], a, b, i)
+    let from = l * mesh.nvp;
+    let to = corners_end(mesh, l);
+    is_named_back(&mesh.polygons[from..to], &mesh.links[from..to], a, b, i)
 }
 
 // Whether the link of side j of polygon i, of np polygons, holds; `own` are its corners, and `mine` its links.
 pub fn link_holds(
-    nvp: usize,
+    mesh: &Mesh<'_>,
     np: usize,
-    polygons: &[u16],
-    links: &[u32],
     i: usize,
     own: &[u16],
     mine: &[u32],
     j: usize,
 ) -> bool
-    requires { PolygonAt (links_in nvp polygons.now links.now) np i own.now mine.now × (j < length own.now) }
-    ensures { result ≡ link_holds (mesh_in (links_in nvp polygons.now links.now)) i j }
+    requires { PolygonAt (linked mesh.now) np i own.now mine.now × (j < length own.now) }
+    ensures { result ≡ link_holds (mesh_in (linked mesh.now)) i j }
 {
     let l = mine[j];
     if NONE <= l {
@@ -83,5 +74,5 @@ pub fn link_holds(
         return false;
     }
     let e = next(j, own.len());
-    polygon_names_back(nvp, polygons, links, other, own[j], own[e], i as u32)
+    polygon_names_back(mesh, other, own[j], own[e], i as u32)
 }

@@ -1,4 +1,5 @@
 -- What is printed: the verdict by its two numbers, a claim's text, and the text of the whole for each way that the reading ends. Assumes nothing.
+use Rattle.std.specs.Prelude.{Result, ⊤}
 use mathlib.Core.Path.{◌≡◌, refl, sym, ap, ◌∙◌, subst}
 use mathlib.Core.List.{List, [], ◌∷◌, ◌++◌}
 use mathlib.Core.Logic.{⊎_elim, ◌≢◌}
@@ -13,7 +14,7 @@ use Rattle.rules.specs.Checks.{vertex_stride}
 use Rattle.rules.specs.Sheet.{bytes_most, Read, taken, bad, and_then, read_heading, refused_text, read_text}
 use Rattle.rules.specs.CheckSheet.{row_words, accepted_name, no_mesh_yet, verdict_text, read_mesh, read_claim, check_text}
 use Rattle.rules.specs.Checker.{Claim, verdict, verdict_number, verdict_second}
-use Rattle.rules.specs.declared.Verdict.{Verdict}
+use Rattle.rules.specs.declared.Objection.{Objection}
 use Rattle.checker.specs.Asked.{claim_in}
 use Rattle.sheet.specs.declared.heading.Heading.{Heading}
 use Rattle.sheet.specs.declared.heading.HeadingRead.{HeadingRead}
@@ -47,12 +48,12 @@ module _ (number second : ℕ) where
       (λ (e : number ≢ 0). omega (arith, ap length (numbers_refused e), refused_room number second))
       (eq_or_ne number 0)
 
-verdict_numbers : (v : Verdict) → numbers_text (verdict_number v) (verdict_second v) ≡ verdict_text v
+verdict_numbers : (v : Result ⊤ Objection) → numbers_text (verdict_number v) (verdict_second v) ≡ verdict_text v
 unfolding numbers_text verdict_text
 verdict_numbers v = refl
 
 -- y is the total as the bits say it
-pub answer_is : (x : Heading) (z : ℤ) (vs ps ls : List ℕ) {y : ℤ} {v : Verdict} {number second : ℕ} → y ≡ z
+pub answer_is : (x : Heading) (z : ℤ) (vs ps ls : List ℕ) {y : ℤ} {v : Result ⊤ Objection} {number second : ℕ} → y ≡ z
     → v ≡ verdict (claim_in x.nvp x.w x.h x.border y vs ps ls) → number ≡ verdict_number v → second ≡ verdict_second v
     → numbers_text number second ≡ answer_text x z vs ps ls
 unfolding answer_text claim_text with_mesh no_mesh_yet sheet_of

@@ -10,7 +10,8 @@ use Rattle.ints.specs.Ring.{at, nat, ◌⊖◌, is_eq}
 use Rattle.ints.specs.Order.{eq_is}
 use Rattle.mem.specs.Cases.{lt_or_le}
 use Rattle.rules.specs.declared.Fault.{Fault}
-use Rattle.rules.specs.declared.Verdict.TheVariants.{Accepted, Unsound, BadArea}
+use Rattle.rules.specs.declared.Objection.{Objection}
+use Rattle.rules.specs.declared.Objection.TheVariants.{Unsound, BadArea}
 use Rattle.rules.specs.Plane.{is_zero}
 use Rattle.rules.specs.Links.{none}
 use Rattle.rules.specs.Areas.{stored_area}
@@ -67,25 +68,25 @@ module _ (c : Claim) where
   unfolding verdict
   sound_passes e = rw (e, verdict) refl
 
-  is_sound : verdict c ≡ Accepted → soundness c.mesh ≡ (Ok tt)
+  is_sound : verdict c ≡ (Ok tt) → soundness c.mesh ≡ (Ok tt)
   unfolding verdict
   is_sound e = go (soundness c.mesh) refl
     where
       go : (s : Result ⊤ Fault) → soundness c.mesh ≡ s → soundness c.mesh ≡ (Ok tt)
       go (Ok _) q = q
       go (Err f) q =
-          let x : Unsound f ≡ Accepted = rw (q, verdict) at e in let z : ◌≡◌ {A = ℕ} 0 1 = cc in absurd (omega arith)
+          let x : ◌≡◌ {A = Result ⊤ Objection} (Err (Unsound f)) (Ok tt) = rw (q, verdict) at e in let z : ◌≡◌ {A = ℕ} 0 1 = cc in absurd (omega arith)
 
-  no_portal_fault : (f : Option ℕ) → sound_verdict c f ≡ Accepted → f ≡ None
+  no_portal_fault : (f : Option ℕ) → sound_verdict c f ≡ (Ok tt) → f ≡ None
   unfolding sound_verdict
   no_portal_fault (Some i) e = let z : ◌≡◌ {A = ℕ} 0 1 = cc in absurd (omega arith)
   no_portal_fault None e = refl
 
-  area_holds_lem : (t : Bool) → cond t Accepted BadArea ≡ Accepted → t ≡ true
+  area_holds_lem : (t : Bool) → cond {A = Result ⊤ Objection} t (Ok tt) (Err BadArea) ≡ (Ok tt) → t ≡ true
   area_holds_lem true e = refl
   area_holds_lem false e = let z : ◌≡◌ {A = ℕ} 0 1 = cc in absurd (omega arith)
 
-  acceptable : verdict c ≡ Accepted → Acceptable c
+  acceptable : verdict c ≡ (Ok tt) → Acceptable c
   unfolding sound_verdict area_holds
   acceptable e =
       let s = is_sound e in
@@ -97,12 +98,12 @@ module _ (c : Claim) where
         area = equal_of (stored_area (mesh_in c.mesh)) c.total (area_holds_lem (area_holds c) (rw n at p));
       }
 
-  accepted : Acceptable c → verdict c ≡ Accepted
+  accepted : Acceptable c → verdict c ≡ (Ok tt)
   unfolding sound_verdict area_holds
   accepted a =
       let n = no_fault (portals_hold c) (polygon_count c.mesh) (λ i h. portals_good c i (a.portals i h)) in
       sound_passes ((sound_exactly c.mesh).1 a.consistent)
-      ∙ rw n (ap (λ (t : Bool). cond t Accepted BadArea) (of_equal (stored_area (mesh_in c.mesh)) c.total a.area))
+      ∙ rw n (ap (λ (t : Bool). cond {A = Result ⊤ Objection} t (Ok tt) (Err BadArea)) (of_equal (stored_area (mesh_in c.mesh)) c.total a.area))
 
 pub accepts_exactly : AcceptsExactly
 accepts_exactly c = (acceptable c, accepted c)

@@ -1,14 +1,13 @@
 -- Every mesh that is built has mutual links and the portals of R7, and is accepted by the checker with its own total: what `rules` states in its file
 -- `Checker`. Assumes nothing.
 -- Key: `link_law`, `open_law`, `each_accepted`.
-use Rattle.std.specs.Prelude.{ℕ, ◌*◌, ◌≤◌, ◌<◌, ◌≡◌, List, [], take}
+use Rattle.std.specs.Prelude.{ℕ, ◌*◌, ◌≤◌, ◌<◌, ◌≡◌, List, [], take, Ok}
 use Rattle.std.proofs.Math.Nat.{le_trans}
 use Rattle.std.proofs.Common.{mul-le-mul_right, arith}
 use Rattle.std.proofs.Math.Path.{refl, ap}
 use Rattle.std.proofs.Math.ListN.{length}
 use Rattle.mem.specs.Slice.{splice, view_same}
 use Rattle.mem.specs.Packed.{every_at, packed}
-use Rattle.rules.specs.declared.Verdict.TheVariants.{Accepted}
 use Rattle.rules.specs.Mesh.{polygon_at, Mesh}
 use Rattle.rules.specs.Removal.{Removal}
 use Rattle.rules.specs.Links.{none, links_of}
@@ -130,7 +129,7 @@ module _ (j : Job) (b : Lent) (m : Mesh) (ls : List (List ℕ)) (log : List Remo
   unfolding own_claim claimed mesh_area
   claim_is = rw (own_area, exits_built j b m ls log e, handed_is) refl
 
-  own : verdict (own_claim j (exits j b) (length m.polygons) (length m.vertices)) ≡ Accepted
+  own : verdict (own_claim j (exits j b) (length m.polygons) (length m.vertices)) ≡ (Ok tt)
   own = rw claim_is
       ((accepts_exactly (claimed j.nvp j.w j.h j.border m.vertices m.polygons ls meets)).1
       (meets_acceptable j.nvp j.w j.h j.border m.vertices m.polygons ls meets))

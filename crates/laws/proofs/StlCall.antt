@@ -15,7 +15,7 @@ use Rattle.rules.specs.Handed.{Handed, polygon_count, buffers_of, mesh_in, sound
 use Rattle.rules.specs.Stl.{Scale, is_scale, size_of, height_of, file_length}
 use Rattle.rules.specs.StlCall.{mesh_facets, mesh_count, mesh_file, room_reply, stl_reply, ShortExactly, WrittenReadsBack}
 use Rattle.rules.specs.declared.Fault.{Fault}
-use Rattle.rules.specs.declared.StlReply.TheVariants.{Written, BadMesh, BadScale, ShortFile}
+use Rattle.rules.specs.declared.StlRefusal.TheVariants.{BadMesh, BadScale, ShortFile}
 use Rattle.laws.proofs.Handed.{sound_exactly}
 use Rattle.laws.proofs.HandedWords.{corners_few}
 use Rattle.laws.proofs.Stl.{file_is_long, mesh_reads_back, count_fits}
@@ -23,26 +23,26 @@ use Rattle.laws.proofs.Stl.{file_is_long, mesh_reads_back, count_fits}
 -- ---- the reply, by what 40 to 42 say
 
 module _ (m : Handed) (s : Scale) (room : ℕ) where
-  pub sound_reply : soundness m ≡ (Ok tt) → stl_reply m s room ≡ cond (is_scale s) (room_reply (mesh_count m) room) BadScale
+  pub sound_reply : soundness m ≡ (Ok tt) → stl_reply m s room ≡ cond (is_scale s) (room_reply (mesh_count m) room) (Err BadScale)
   unfolding stl_reply
   sound_reply e = rw (e, stl_reply) refl
 
-  pub broken_reply : (f : Fault) → soundness m ≡ Err f → stl_reply m s room ≡ BadMesh f
+  pub broken_reply : (f : Fault) → soundness m ≡ Err f → stl_reply m s room ≡ Err (BadMesh f)
   unfolding stl_reply
   broken_reply f e = rw (e, stl_reply) refl
 
 -- ---- 71
 
 module _ (n room : ℕ) where
-  pub fits_written : file_length n ≤ room → room_reply n room ≡ Written n
+  pub fits_written : file_length n ≤ room → room_reply n room ≡ Ok n
   unfolding room_reply
   fits_written h = rw (le-leb (file_length n) room h) refl
 
-  short_refused : room < file_length n → room_reply n room ≡ ShortFile
+  short_refused : room < file_length n → room_reply n room ≡ Err ShortFile
   unfolding room_reply
   short_refused h = rw (lt-leb (file_length n) room h) refl
 
-  refused_short : room_reply n room ≡ ShortFile → room < file_length n
+  refused_short : room_reply n room ≡ Err ShortFile → room < file_length n
   refused_short e = ⊎_elim
       (λ (h : room < file_length n). h)
       (λ (h : file_length n ≤ room). let w = sym (fits_written h) ∙ e in let z : ◌≡◌ {A = ℕ} 0 1 = cc in absurd (omega arith))
@@ -61,7 +61,7 @@ short_exactly m s room sound scale =
 
 -- ---- what was written reads back
 
-pub written_sound : (m : Handed) (s : Scale) (room n : ℕ) → stl_reply m s room ≡ Written n → soundness m ≡ (Ok tt)
+pub written_sound : (m : Handed) (s : Scale) (room n : ℕ) → stl_reply m s room ≡ Ok n → soundness m ≡ (Ok tt)
 written_sound m s room n e = go (soundness m) refl
   where
     go : (t : Result ⊤ Fault) → soundness m ≡ t → soundness m ≡ (Ok tt)

@@ -1,5 +1,6 @@
 -- What a call comes to, step by step. Assumes nothing.
 -- Key: `written`, `ended_full`, `ended_written`: what is left once the scratch was checked; `job-*`: each reply of the call.
+use Rattle.std.specs.Prelude.{Result, Ok, Err}
 use mathlib.Core.Path.{◌≡◌, refl, sym, ap, ap₂, ◌∙◌}
 use mathlib.Core.Bool.{Bool, true, false, ◌&&◌, ◌||◌}
 use mathlib.Core.List.{List, [], ◌∷◌, ◌++◌, append-nil}
@@ -17,8 +18,9 @@ use Rattle.rules.specs.MendCall.{MendLent, mended_job, kept_lengths, kept_count,
 use Rattle.rules.specs.MendCall.{lost_numbers, mended_numbers, vertices_in, are_whole, lengths_agree, longest, vertices_most}
 use Rattle.rules.specs.MendCall.{is_short_scratch, is_list_full, mend_outcome}
 use Rattle.rules.specs.MendCall.{mend_reply_of, scratch_wiped, mend_exit_of, mend_exit, one_contour}
-use Rattle.rules.specs.declared.MendReply.{MendReply}
-use Rattle.rules.specs.declared.MendReply.TheVariants.{Mended, NotWhole, LengthsDisagree, ShortScratch, ListFull}
+use Rattle.rules.specs.declared.Mended.{Mended}
+use Rattle.rules.specs.declared.MendRefusal.{MendRefusal}
+use Rattle.rules.specs.declared.MendRefusal.TheVariants.{NotWhole, LengthsDisagree, ShortScratch, ListFull}
 use Rattle.checks.specs.Sums.{sum_all, part_of}
 use Rattle.mend.specs.declared.contours.Tally.{Tally}
 use Rattle.mend.specs.Contours.{CountReady, Counted, AllMended}
@@ -34,6 +36,10 @@ unfolding sum_all part_of
 so_many cs n h e = rw (le-leb (length cs) 65535 h, e) refl
 
 -- ---- what is written
+
+-- so many points are lost, and so many kept
+abbrev mends_to : ℕ → ℕ → Result Mended MendRefusal
+mends_to lost kept = Ok (record { lost = lost; kept = kept })
 
 -- the scratch is wiped, whatever its first words were
 wiped_same : (ws ws' : List ℕ) (k : ℕ) → k ≤ length ws → length ws' ≡ length ws → drop k ws' ≡ drop k ws → splice ws' 0 (replicate k 0) ≡ splice ws 0
@@ -55,7 +61,7 @@ filled_end ns o k h =
 module _ {cs ns ls ws : List ℕ} {most : ℕ} (r : WriteReady cs ns ls ws most) where
   pub written : {all : Tally} {cs' ns' ls' ws' ns'' ws'' : List ℕ} → AllMended all cs ns ls ws cs' ns' ls' ws'
       → ns'' ≡ splice ns' (all.kept * job_stride) (replicate (length ns' - all.kept * job_stride) 0) → ws'' ≡ splice ws' 0 (replicate most 0)
-      → Written (Mended all.lost all.kept) (lent_of cs ns ls ws) (lent_of cs' ns'' ls' ws'')
+      → Written (mends_to all.lost all.kept) (lent_of cs ns ls ws) (lent_of cs' ns'' ls' ws'')
   unfolding mend_reply_of mend_exit_of scratch_wiped mended_numbers
   written {all} {cs'} {ns'} {ls'} {ws'} {ns''} {ws''} m p q =
       let ms = mended_job cs ns in
@@ -67,7 +73,7 @@ module _ {cs ns ls ws : List ℕ} {most : ℕ} (r : WriteReady cs ns ls ws most)
       let work : ws'' ≡ splice ws 0 (replicate (longest cs) 0) =
       q ∙ ap (λ (i : ℕ). splice ws' 0 (replicate i 0)) r.ready.longest ∙ wiped_same ws ws' (longest cs) r.ready.count.fits m.long_work m.rest in
       record {
-        reply = ap₂ Mended m.lost m.kept;
+        reply = ap₂ mends_to m.lost m.kept;
         words = ap₂ (λ (l n : List ℕ). lent_of l n ls' ws'') m.lengths numbers
             ∙ ap₂ (λ (l w : List ℕ). lent_of (kept_lengths ms) (kept_words ms ++ replicate (length (lost_numbers ms) * job_stride) 0) l w) m.list work;
       }
@@ -79,7 +85,7 @@ module _ {cs ns ls ws : List ℕ} {most : ℕ} (r : MendReady cs ns ws most) {lo
   unfolding is_list_full
   full_is b e = ap₂ (λ (l : List ℕ) (i : ℕ). ltb (length l) i) (sym k.list) (sym k.is) ∙ e
 
-  pub ended_full : {ws'' : List ℕ} → length ls' < lost → ws'' ≡ splice ws' 0 (replicate most 0) → Ended ListFull (lent_of cs ns ls ws) (lent_of cs ns' ls' ws'')
+  pub ended_full : {ws'' : List ℕ} → length ls' < lost → ws'' ≡ splice ws' 0 (replicate most 0) → Ended (Err ListFull) (lent_of cs ns ls ws) (lent_of cs ns' ls' ws'')
   unfolding checked_outcome mend_reply_of mend_exit_of scratch_wiped
   ended_full {ws''} h q =
       let full = full_is true (lt-ltb (length ls') lost h) in
@@ -102,7 +108,7 @@ module _ {cs ns ls ws : List ℕ} {most : ℕ} (r : MendReady cs ns ws most) {lo
         all = record { count = count; room = omega (arith, h, k.is, ap (λ (n : List ℕ). length (lost_numbers (mended_job cs n))) k.numbers) };
       }
 
-  pub ended_written : {x : MendReply} {e : MendLent} → lost ≤ length ls' → Written x (lent_of cs ns' ls' ws') e → Ended x (lent_of cs ns ls ws) e
+  pub ended_written : {x : Result Mended MendRefusal} {e : MendLent} → lost ≤ length ls' → Written x (lent_of cs ns' ls' ws') e → Ended x (lent_of cs ns ls ws) e
   unfolding checked_outcome mend_reply_of mend_exit_of scratch_wiped
   ended_written {x} {e} h w =
       let ms = mended_job cs ns in
@@ -111,7 +117,7 @@ module _ {cs ns ls ws : List ℕ} {most : ℕ} (r : MendReady cs ns ws most) {lo
       let work : splice ws' 0 (replicate (longest cs) 0) ≡ splice ws 0 (replicate (longest cs) 0) =
       wiped_same ws ws' (longest cs) r.count.fits k.long_work k.rest in
       record {
-        reply = rw (full, checked_outcome) (w.reply ∙ ap (λ (l : List Mending). Mended (length (lost_numbers l)) (kept_count l)) same);
+        reply = rw (full, checked_outcome) (w.reply ∙ ap (λ (l : List Mending). mends_to (length (lost_numbers l)) (kept_count l)) same);
         words = rw (full, checked_outcome) (w.words
             ∙ ap (λ (l : List Mending). lent_of (kept_lengths l) (mended_numbers l) (splice ls' 0 (lost_numbers l)) (splice ws' 0 (replicate (longest cs) 0))) same
             ∙ ap₂ (λ (l v : List ℕ). lent_of (kept_lengths ms) (mended_numbers ms) (splice l 0 (lost_numbers ms)) v) k.list work);
@@ -119,7 +125,7 @@ module _ {cs ns ls ws : List ℕ} {most : ℕ} (r : MendReady cs ns ws most) {lo
 
 -- ---- the call
 
-abbrev pub Replies : MendReply → MendLent → MendLent → Type 0
+abbrev pub Replies : Result Mended MendRefusal → MendLent → MendLent → Type 0
 Replies x b e = (x ≡ mend_reply_of (mend_outcome b)) × (e ≡ mend_exit b)
 
 module _ (cs ns ls ws : List ℕ) where
@@ -127,19 +133,19 @@ module _ (cs ns ls ws : List ℕ) where
   unfolding are_whole vertices_in
   whole_is b e = e
 
-  pub job_not_whole : length ns / job_stride * job_stride < length ns → Replies NotWhole (lent_of cs ns ls ws) (lent_of cs ns ls ws)
+  pub job_not_whole : length ns / job_stride * job_stride < length ns → Replies (Err NotWhole) (lent_of cs ns ls ws) (lent_of cs ns ls ws)
   unfolding mend_outcome mend_reply_of mend_exit mend_exit_of
   job_not_whole h = let e = whole_is false (ne_eqb (length ns / job_stride * job_stride) (length ns) (λ
       (q : length ns / job_stride * job_stride ≡ length ns). omega arith)) in
       (rw (e, mend_outcome) refl, rw (e, mend_outcome) refl)
 
   module _ (whole : are_whole ns ≡ true) where
-    pub job_disagrees : lengths_agree cs ns ≡ false → Replies LengthsDisagree (lent_of cs ns ls ws) (lent_of cs ns ls ws)
+    pub job_disagrees : lengths_agree cs ns ≡ false → Replies (Err LengthsDisagree) (lent_of cs ns ls ws) (lent_of cs ns ls ws)
     unfolding mend_outcome mend_reply_of mend_exit mend_exit_of
     job_disagrees a = (rw (whole, a, mend_outcome) refl, rw (whole, a, mend_outcome) refl)
 
     module _ (agree : lengths_agree cs ns ≡ true) where
-      pub job_short : is_short_scratch (lent_of cs ns ls ws) ≡ true → Replies ShortScratch (lent_of cs ns ls ws) (lent_of cs ns ls ws)
+      pub job_short : is_short_scratch (lent_of cs ns ls ws) ≡ true → Replies (Err ShortScratch) (lent_of cs ns ls ws) (lent_of cs ns ls ws)
       unfolding mend_outcome mend_reply_of mend_exit mend_exit_of
       job_short s = (rw (whole, agree, s, mend_outcome) refl, rw (whole, agree, s, mend_outcome) refl)
 
@@ -147,7 +153,7 @@ module _ (cs ns ls ws : List ℕ) where
       unfolding mend_outcome checked_outcome
       outcome_is s = rw (whole, agree, s, mend_outcome) refl
 
-      pub job_ended : {x : MendReply} {e : MendLent} → is_short_scratch (lent_of cs ns ls ws) ≡ false → Ended x (lent_of cs ns ls ws) e → Replies x
+      pub job_ended : {x : Result Mended MendRefusal} {e : MendLent} → is_short_scratch (lent_of cs ns ls ws) ≡ false → Ended x (lent_of cs ns ls ws) e → Replies x
           (lent_of cs ns ls ws) e
       unfolding mend_exit
       job_ended s d = (d.reply ∙ ap mend_reply_of (sym (outcome_is s)), d.words ∙ ap (mend_exit_of (lent_of cs ns ls ws)) (sym (outcome_is s)))
@@ -189,14 +195,14 @@ mend_ready cs ns ws {most} h a e s =
 -- ---- one contour
 
 -- what is seen of the reply and the buffers; the length is not
-abbrev pub OneReplies : MendReply → MendLent → List ℕ → List ℕ → List ℕ → Type 0
+abbrev pub OneReplies : Result Mended MendRefusal → MendLent → List ℕ → List ℕ → List ℕ → Type 0
 OneReplies x b ns ls ws = (x ≡ mend_reply_of (mend_outcome b)) × ((ns ≡ (mend_exit b).numbers) × ((ls ≡ (mend_exit b).list) × (ws ≡ (mend_exit b).work)))
 
-one_of : {x : MendReply} (b e : MendLent) → Replies x b e → OneReplies x b e.numbers e.list e.work
+one_of : {x : Result Mended MendRefusal} (b e : MendLent) → Replies x b e → OneReplies x b e.numbers e.list e.work
 one_of b e r = (r.0, (ap (λ (l : MendLent). l.numbers) r.1, (ap (λ (l : MendLent). l.list) r.1, ap (λ (l : MendLent). l.work) r.1)))
 
 module _ (ns ls ws : List ℕ) where
-  pub one_not_whole : length ns / job_stride * job_stride < length ns → OneReplies NotWhole (one_contour ns ls ws) ns ls ws
+  pub one_not_whole : length ns / job_stride * job_stride < length ns → OneReplies (Err NotWhole) (one_contour ns ls ws) ns ls ws
   unfolding one_contour
   one_not_whole h = one_of (one_contour ns ls ws) (one_contour ns ls ws) (job_not_whole (vertices_in ns ∷ []) ns ls ws h)
 
@@ -214,11 +220,11 @@ module _ (ns ls ws : List ℕ) where
       or_true false = refl
 
   pub one_short : length ns ≤ length ns / job_stride * job_stride → vertices_most < length ns / job_stride
-      → OneReplies ShortScratch (one_contour ns ls ws) ns ls ws
+      → OneReplies (Err ShortScratch) (one_contour ns ls ws) ns ls ws
   unfolding one_contour
   one_short h k = one_of (one_contour ns ls ws) (one_contour ns ls ws) (job_short (vertices_in ns ∷ []) ns ls ws (whole_now ns h) one_agrees (one_many k))
 
-  pub one_mended : {x : MendReply} {cs ns' ls' ws' : List ℕ} → Replies x (lent_of (length ns / job_stride ∷ []) ns ls ws) (lent_of cs ns' ls' ws')
+  pub one_mended : {x : Result Mended MendRefusal} {cs ns' ls' ws' : List ℕ} → Replies x (lent_of (length ns / job_stride ∷ []) ns ls ws) (lent_of cs ns' ls' ws')
       → OneReplies x (one_contour ns ls ws) ns' ls' ws'
   unfolding one_contour vertices_in
   one_mended {cs = cs} {ns'} {ls'} {ws'} r = one_of (one_contour ns ls ws) (lent_of cs ns' ls' ws') r

@@ -6,7 +6,7 @@ ghost use Rattle.mend.specs.Call.{lent_of, WriteReady, Written, MendReady, Ended
 
 use crate::contours::{count_lost, mend_all};
 use checks::counts::{JOB_STRIDE, MOST_CONTOURS, count_all};
-use rules::MendReply;
+use rules::{MendRefusal, Mended};
 use words::fill::fill;
 use words::places::link_at;
 
@@ -51,7 +51,7 @@ fn write(
     list: &mut [u32],
     work: &mut [u32],
     most: usize,
-) -> MendReply
+) -> Result<Mended, MendRefusal>
     requires { WriteReady lengths.old numbers.old list.old work.old most }
     ensures { Written result (lent_of lengths.old numbers.old list.old work.old)
         (lent_of lengths.new numbers.new list.new work.new) }
@@ -60,7 +60,10 @@ fn write(
     let at = all.kept * JOB_STRIDE;
     fill(numbers, at, numbers.len() - at, 0);
     fill(work, 0, most, 0);
-    MendReply::Mended(all.lost as u64, all.kept as u64)
+    Ok(Mended {
+        lost: all.lost as u64,
+        kept: all.kept as u64,
+    })
 }
 
 // What is lost is counted first, and nothing is written if the list has no room for it.
@@ -70,7 +73,7 @@ fn mend_checked(
     list: &mut [u32],
     work: &mut [u32],
     most: usize,
-) -> MendReply
+) -> Result<Mended, MendRefusal>
     requires { MendReady lengths.old numbers.old work.old most }
     ensures { Ended result (lent_of lengths.old numbers.old list.old work.old)
         (lent_of lengths.new numbers.new list.new work.new) }
@@ -78,7 +81,7 @@ fn mend_checked(
     let lost = count_lost(lengths, numbers, list, work);
     if list.len() < lost {
         fill(work, 0, most, 0);
-        return MendReply::ListFull;
+        return Err(MendRefusal::ListFull);
     }
     write(lengths, numbers, list, work, most)
 }
@@ -90,27 +93,27 @@ pub fn mend_job(
     numbers: &mut [u16],
     list: &mut [u32],
     work: &mut [u32],
-) -> MendReply
+) -> Result<Mended, MendRefusal>
     ensures reply { result ≡ mend_reply_of (mend_outcome (lent_of lengths.old numbers.old list.old work.old)) }
     ensures words { lent_of lengths.new numbers.new list.new work.new ≡ mend_exit
         (lent_of lengths.old numbers.old list.old work.old) }
 {
     let n = numbers.len() / JOB_STRIDE;
     if n * JOB_STRIDE < numbers.len() {
-        return MendReply::NotWhole;
+        return Err(MendRefusal::NotWhole);
     }
     if lengths_agree(lengths, n) {
         let most = longest_of(lengths);
         if (work.len() < most) | (MOST_VERTICES < n) {
-            return MendReply::ShortScratch;
+            return Err(MendRefusal::ShortScratch);
         }
         return mend_checked(lengths, numbers, list, work, most);
     }
-    MendReply::LengthsDisagree
+    Err(MendRefusal::LengthsDisagree)
 }
 
 // One contour is mended, which has all the numbers.
-pub fn mend(numbers: &mut [u16], list: &mut [u32], work: &mut [u32]) -> MendReply
+pub fn mend(numbers: &mut [u16], list: &mut [u32], work: &mut [u32]) -> Result<Mended, MendRefusal>
     ensures reply { result ≡ mend_reply_of (mend_outcome (one_contour numbers.old list.old work.old)) }
     ensures numbers { numbers.new ≡ (mend_exit (one_contour numbers.old list.old work.old)).numbers }
     ensures list { list.new ≡ (mend_exit (one_contour numbers.old list.old work.old)).list }
@@ -118,10 +121,10 @@ pub fn mend(numbers: &mut [u16], list: &mut [u32], work: &mut [u32]) -> MendRepl
 {
     let n = numbers.len() / JOB_STRIDE;
     if n * JOB_STRIDE < numbers.len() {
-        return MendReply::NotWhole;
+        return Err(MendRefusal::NotWhole);
     }
     if MOST_VERTICES < n {
-        return MendReply::ShortScratch;
+        return Err(MendRefusal::ShortScratch);
     }
     let mut lengths = [n as u32];
     mend_job(&mut lengths, numbers, list, work)

@@ -1,6 +1,7 @@
 -- A sheet's contours are always mended: its numbers are whole vertices, as many as its contours have, and the lists that are lent are long enough. What the
 -- mender leaves then. Assumes nothing.
 -- Key: `sheet_mends`, `sheet_left`; `sheet_ready`, `mended_is`: the mended sheet; `losses_ready`, `losses_are`: the lost points.
+use Rattle.std.specs.Prelude.{Result}
 use mathlib.Core.Path.{◌≡◌, refl, sym, ap, ◌∙◌}
 use mathlib.Core.Bool.{true, false}
 use mathlib.Core.List.{List}
@@ -16,7 +17,8 @@ use Rattle.rules.specs.MendCall.{MendLent, mended_job, kept_lengths, kept_count,
 use Rattle.rules.specs.MendCall.{vertices_in, are_whole, lengths_agree, longest, vertices_most, is_short_scratch, is_list_full, mended_numbers, mend_exit_of, mend_exit}
 use Rattle.rules.specs.Mend.{Mending}
 use Rattle.rules.specs.MendSheet.{mended_sheet, sheet_text}
-use Rattle.rules.specs.declared.MendReply.{MendReply}
+use Rattle.rules.specs.declared.Mended.{Mended}
+use Rattle.rules.specs.declared.MendRefusal.{MendRefusal}
 use Rattle.sheet.specs.declared.heading.Heading.{Heading}
 use Rattle.sheet.specs.Reading.{sheet_of, with_lists}
 use Rattle.sheet.specs.Room.{out_most}
@@ -69,14 +71,14 @@ blank_long = refl
 
 -- ---- what the mender leaves of a sheet's lists: r is its reply
 
-pub record Mends (ls ns list : List ℕ) (r : MendReply) (ls' ns' list' : List ℕ) : Type 0 where
+pub record Mends (ls ns list : List ℕ) (r : Result Mended MendRefusal) (ls' ns' list' : List ℕ) : Type 0 where
   pub lost : get_or (mend_words r) 1 0 ≡ length (lost_numbers (mended_job ls ns))
   pub kept : get_or (mend_words r) 2 0 ≡ kept_count (mended_job ls ns)
   pub lengths : ls' ≡ kept_lengths (mended_job ls ns)
   pub numbers : ns' ≡ mended_numbers (mended_job ls ns)
   pub losses : list' ≡ splice list 0 (lost_numbers (mended_job ls ns))
 
-pub sheet_left : {ls ns ls' ns' list' work' : List ℕ} {r : MendReply} (list work : List ℕ) → FromSheet ls ns → length list ≡ words_lent → length work ≡ words_lent
+pub sheet_left : {ls ns ls' ns' list' work' : List ℕ} {r : Result Mended MendRefusal} (list work : List ℕ) → FromSheet ls ns → length list ≡ words_lent → length work ≡ words_lent
     → r ≡ mend_reply_of (mend_outcome (lent_of ls ns list work)) → lent_of ls' ns' list' work' ≡ mend_exit (lent_of ls ns list work)
     → Mends ls ns list r ls' ns' list'
 unfolding mend_reply_of mend_words mend_exit mend_exit_of
@@ -86,8 +88,8 @@ sheet_left {ls} {ns} list work s l w reply words =
     let a = reply ∙ ap mend_reply_of o in
     let e = words ∙ ap (mend_exit_of b) o in
     record {
-      lost = ap (λ (q : MendReply). get_or (mend_words q) 1 0) a;
-      kept = ap (λ (q : MendReply). get_or (mend_words q) 2 0) a;
+      lost = ap (λ (q : Result Mended MendRefusal). get_or (mend_words q) 1 0) a;
+      kept = ap (λ (q : Result Mended MendRefusal). get_or (mend_words q) 2 0) a;
       lengths = ap (λ (u : MendLent). u.lengths) e;
       numbers = ap (λ (u : MendLent). u.numbers) e;
       losses = ap (λ (u : MendLent). u.list) e;
@@ -95,7 +97,7 @@ sheet_left {ls} {ns} list work s l w reply words =
 
 -- ---- the mended sheet is printed
 
-module _ {ls ns list ls' ns' list' : List ℕ} {r : MendReply} (s : FromSheet ls ns) (m : Mends ls ns list r ls' ns' list')
+module _ {ls ns list ls' ns' list' : List ℕ} {r : Result Mended MendRefusal} (s : FromSheet ls ns) (m : Mends ls ns list r ls' ns' list')
     {k : ℕ} (e : k ≡ get_or (mend_words r) 2 0) where
   abbrev ms : List Mending
   ms = mended_job ls ns
@@ -143,7 +145,7 @@ module _ {ls ns list ls' ns' list' : List ℕ} {r : MendReply} (s : FromSheet ls
 
 -- ---- the lost points are printed
 
-module _ {ls ns list ls' ns' list' : List ℕ} {r : MendReply} (s : FromSheet ls ns) (m : Mends ls ns list r ls' ns' list')
+module _ {ls ns list ls' ns' list' : List ℕ} {r : Result Mended MendRefusal} (s : FromSheet ls ns) (m : Mends ls ns list r ls' ns' list')
     {k : ℕ} (e : k ≡ get_or (mend_words r) 1 0) (l : length list ≡ words_lent) where
   abbrev lost_ones : List ℕ
   lost_ones = lost_numbers (mended_job ls ns)

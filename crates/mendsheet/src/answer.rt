@@ -8,32 +8,26 @@ ghost use Rattle.mendsheet.specs.Mended.{mended_text, MendReady, losses_of, Loss
 use crate::lost::put_lost;
 use crate::print::put_sheet;
 use mend::job::mend_job;
-use rules::MendReply;
+use rules::{MendRefusal, Mended};
 use sheet::heading::Heading;
 
 // How many points are lost, by the mender's reply; a refusal, which no sheet gets, loses none.
-fn lost_in(reply: MendReply) -> usize
+fn lost_in(reply: Result<Mended, MendRefusal>) -> usize
     ensures { result ≡ get_or (mend_words reply) 1 0 }
 {
     match reply {
-        MendReply::Mended(lost, _) => lost as usize,
-        MendReply::NotWhole => 0,
-        MendReply::LengthsDisagree => 0,
-        MendReply::ShortScratch => 0,
-        MendReply::ListFull => 0,
+        Ok(mended) => mended.lost as usize,
+        Err(_) => 0,
     }
 }
 
 // How many points are kept, in the same way.
-fn kept_in(reply: MendReply) -> usize
+fn kept_in(reply: Result<Mended, MendRefusal>) -> usize
     ensures { result ≡ get_or (mend_words reply) 2 0 }
 {
     match reply {
-        MendReply::Mended(_, kept) => kept as usize,
-        MendReply::NotWhole => 0,
-        MendReply::LengthsDisagree => 0,
-        MendReply::ShortScratch => 0,
-        MendReply::ListFull => 0,
+        Ok(mended) => mended.kept as usize,
+        Err(_) => 0,
     }
 }
 

@@ -1,11 +1,11 @@
 -- Request 7 at the terminal: a printed mesh that is read and checked, and the verdict as a text, a function of the bytes that are read. Definitions only.
-use Rattle.std.specs.Prelude.{true, false, cond, List, [], ◌∷◌, ◌++◌, ℕ, zero, suc, ◌+◌, ◌-◌, eqb, leb, ℤ, length, take, drop, get_or, replicate, Option, Some, None}
+use Rattle.std.specs.Prelude.{true, false, cond, List, [], ◌∷◌, ◌++◌, ℕ, zero, suc, ◌+◌, ◌-◌, eqb, leb, ℤ, length, take, drop, get_or, replicate, Option, Some, None, Result, ⊤}
 use Rattle.rules.specs.Lines.{ascii, lf, Line, Numbers, malformed, numbers_of, signed_in}
 use Rattle.rules.specs.Exits.{padded}
 use Rattle.rules.specs.Sheet.{number_most, code_most, heading_lines, mesh_name, v_name, p_name, n_name, refused_text, text_by}
 use Rattle.rules.specs.Sheet.{Sheet, Read, taken, bad, and_then, line_at, need, read_heading}
 use Rattle.rules.specs.Checker.{Claim, verdict, verdict_number, verdict_second}
-use Rattle.rules.specs.declared.Verdict.{Verdict}
+use Rattle.rules.specs.declared.Objection.{Objection}
 
 -- ---- limits
 
@@ -117,7 +117,7 @@ read_claim ls = and_then (read_heading ls) (read_mesh (drop heading_lines ls))
 unfoldable pub accepted_name : List ℕ
 accepted_name = ascii "accepted"
 
-unfoldable pub verdict_text : Verdict → List ℕ
+unfoldable pub verdict_text : Result ⊤ Objection → List ℕ
 verdict_text v = elim (eqb (verdict_number v) 0) [
   | true ↦ accepted_name ++ (lf ∷ [])
   | false ↦ refused_text (verdict_number v) (verdict_second v)

@@ -1,5 +1,5 @@
 -- Request 7, the checker of meshes from elsewhere: what it is asked, and its verdict. Definitions; at the end what is proved of it, in crate `laws`.
-use Rattle.std.specs.Prelude.{◌≡◌, Bool, ◌||◌, cond, ◌↔◌, List, [], ◌∷◌, ℕ, ◌*◌, ◌≤◌, ◌<◌, eqb, ltb, ℤ, ◌-ℤ◌, length, take, Option, Some, None, Ok, Err}
+use Rattle.std.specs.Prelude.{◌≡◌, Bool, ◌||◌, cond, ◌↔◌, List, [], ◌∷◌, ℕ, ◌*◌, ◌≤◌, ◌<◌, eqb, ltb, ℤ, ◌-ℤ◌, length, take, Option, Some, None, Result, Ok, Err, ⊤}
 use Rattle.rules.specs.Plane.{is_zero}
 use Rattle.rules.specs.Mesh.{Mesh, polygon_at, side_start, side_end, place_of}
 use Rattle.rules.specs.Removal.{Removal}
@@ -14,8 +14,8 @@ use Rattle.rules.specs.Areas.{stored_area}
 use Rattle.rules.specs.Handed.{Handed, polygon_count, mesh_in, corners_at, link_at, all_of, first_fault, soundness, NamedBack, Consistent}
 use Rattle.rules.specs.Handed.{fault_number, fault_second}
 use Rattle.rules.specs.declared.Vertex.{Vertex}
-use Rattle.rules.specs.declared.Verdict.{Verdict}
-use Rattle.rules.specs.declared.Verdict.TheVariants.{Accepted, Unsound, BadPortals, BadArea}
+use Rattle.rules.specs.declared.Objection.{Objection}
+use Rattle.rules.specs.declared.Objection.TheVariants.{Unsound, BadPortals, BadArea}
 
 -- ---- what is asked
 
@@ -51,32 +51,38 @@ area_holds c = is_zero (stored_area (mesh_in c.mesh) -ℤ c.total)
 -- ---- the verdict
 
 -- "43 portals, .. with the first polygon at fault; 44 area, with 0"
-unfoldable pub sound_verdict : Claim → Option ℕ → Verdict
-sound_verdict c (Some i) = BadPortals i
-sound_verdict c None = cond (area_holds c) Accepted BadArea
+unfoldable pub sound_verdict : Claim → Option ℕ → Result ⊤ Objection
+sound_verdict c (Some i) = Err (BadPortals i)
+sound_verdict c None = cond (area_holds c) (Ok tt) (Err BadArea)
 
 -- "Refusals, in this order: 40 ..; 41 corners, 42 links, 43 portals, ..; 44 area"
-unfoldable pub verdict : Claim → Verdict
+unfoldable pub verdict : Claim → Result ⊤ Objection
 verdict c = elim (soundness c.mesh) [
-  | Err f ↦ Unsound f
+  | Err f ↦ Err (Unsound f)
   | Ok _ ↦ sound_verdict c (first_fault (portals_hold c) (polygon_count c.mesh))
 ]
 
 -- a verdict's number, 0 if it is accepted, and its second number
-unfoldable pub verdict_number : Verdict → ℕ
-verdict_number Accepted = 0
-verdict_number (Unsound f) = fault_number f
-verdict_number (BadPortals i) = 43
-verdict_number BadArea = 44
+unfoldable pub objection_number : Objection → ℕ
+objection_number (Unsound f) = fault_number f
+objection_number (BadPortals i) = 43
+objection_number BadArea = 44
 
-unfoldable pub verdict_second : Verdict → ℕ
-verdict_second Accepted = 0
-verdict_second (Unsound f) = fault_second f
-verdict_second (BadPortals i) = i
-verdict_second BadArea = 0
+unfoldable pub objection_second : Objection → ℕ
+objection_second (Unsound f) = fault_second f
+objection_second (BadPortals i) = i
+objection_second BadArea = 0
+
+unfoldable pub verdict_number : Result ⊤ Objection → ℕ
+verdict_number (Ok _) = 0
+verdict_number (Err o) = objection_number o
+
+unfoldable pub verdict_second : Result ⊤ Objection → ℕ
+verdict_second (Ok _) = 0
+verdict_second (Err o) = objection_second o
 
 -- .. as three numbers; the third is 0
-unfoldable pub verdict_words : Verdict → List ℕ
+unfoldable pub verdict_words : Result ⊤ Objection → List ℕ
 verdict_words v = verdict_number v ∷ verdict_second v ∷ 0 ∷ []
 
 -- ---- "accept exactly when": the sentences, with no order and no test. Proved in crate `laws`: `AcceptsExactly`
@@ -91,7 +97,7 @@ pub record Acceptable (c : Claim) : Type 0 where
   pub area : stored_area (mesh_in c.mesh) ≡ c.total
 
 abbrev pub AcceptsExactly : Type 0
-AcceptsExactly = (c : Claim) → (verdict c ≡ Accepted) ↔ Acceptable c
+AcceptsExactly = (c : Claim) → (verdict c ≡ Ok tt) ↔ Acceptable c
 
 -- ---- "Every mesh we build, with its own total, is accepted." Proved in crate `laws`
 
@@ -121,7 +127,7 @@ own_claim j b n k = record { mesh = handed_on j.nvp b n k; w = j.w; h = j.h; bor
 
 -- what a job's build answers, and what it leaves in the buffers: if it is a mesh, that mesh is accepted. An `ensures` of `into_polygon_mesh`
 abbrev pub OwnAccepted : Job → Reply → Lent → Type 0
-OwnAccepted j r b = (n k : ℕ) → r ≡ Ok (as_built n k) → verdict (own_claim j b n k) ≡ Accepted
+OwnAccepted j r b = (n k : ℕ) → r ≡ Ok (as_built n k) → verdict (own_claim j b n k) ≡ Ok tt
 
 -- .. of every job, in any buffers
 abbrev pub EachAccepted : Type 0

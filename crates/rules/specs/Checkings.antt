@@ -12,7 +12,7 @@ use Rattle.rules.specs.Lines.{ascii, lf}
 use Rattle.rules.specs.Handed.{vertex_count, polygon_count, mesh_in, corner_word, link_word, all_of, any_of, first_fault, blocks_agree, within_limits, are_few}
 use Rattle.rules.specs.Handed.{buffers_hold, corners_hold, names_back, link_holds, links_hold, or_fault, soundness, fault_number, fault_second}
 use Rattle.rules.specs.Checker.{Claim, open_link, portal_holds, portals_hold, area_holds, sound_verdict, verdict}
-use Rattle.rules.specs.Checker.{verdict_number, verdict_second, handed_on, own_claim}
+use Rattle.rules.specs.Checker.{objection_number, objection_second, verdict_number, verdict_second, handed_on, own_claim}
 use Rattle.rules.specs.CheckSheet.{row_words, need_whole, need_mesh, place_numbers, corner_numbers, link_numbers, with_place, with_polygon, read_polygons}
 use Rattle.rules.specs.CheckSheet.{read_places, no_mesh_yet, read_mesh, read_claim, accepted_name, verdict_text, check_text}
 
@@ -263,7 +263,7 @@ checkings =
 
 -- each row holds
 pub all_check : AllCheck checkings
-unfolding rules room vertex_count polygon_count mesh_in corner_word link_word all_of any_of first_fault blocks_agree within_limits are_few buffers_hold corners_hold names_back link_holds links_hold or_fault soundness fault_number fault_second open_link portal_holds portals_hold area_holds sound_verdict verdict verdict_number verdict_second handed_on own_claim own_of text row_words need_whole need_mesh place_numbers corner_numbers link_numbers with_place with_polygon read_polygons read_places no_mesh_yet read_mesh read_claim accepted_name verdict_text check_text CheckHolds
+unfolding rules room vertex_count polygon_count mesh_in corner_word link_word all_of any_of first_fault blocks_agree within_limits are_few buffers_hold corners_hold names_back link_holds links_hold or_fault soundness fault_number fault_second open_link portal_holds portals_hold area_holds sound_verdict verdict objection_number objection_second verdict_number verdict_second handed_on own_claim own_of text row_words need_whole need_mesh place_numbers corner_numbers link_numbers with_place with_polygon read_polygons read_places no_mesh_yet read_mesh read_claim accepted_name verdict_text check_text CheckHolds
 all_check =
     refl & refl & refl & refl & refl & refl & refl & refl & refl & refl & refl & refl & refl & refl & refl & refl & refl & refl & refl & refl &
     refl & refl & refl & refl & refl & refl & refl & refl & refl & refl & refl & refl & refl & refl & refl & refl & refl & refl & refl & refl &

@@ -1,14 +1,15 @@
 -- Request 12, as it is called: the contours of a job, or one contour, are mended in place. The replies, and what the lent buffers hold at the end for each of
 -- them. Definitions, and what is proved of them.
-use Rattle.std.specs.Prelude.{◌≡◌, Bool, true, false, ◌&&◌, ◌||◌, cond, List, [], ◌∷◌, ◌++◌, map, ℕ, ◌+◌, ◌*◌, ◌/◌, eqb, ltb, leb, length, get_or, replicate}
+use Rattle.std.specs.Prelude.{◌≡◌, Bool, true, false, ◌&&◌, ◌||◌, cond, List, [], ◌∷◌, ◌++◌, map, ℕ, ◌+◌, ◌*◌, ◌/◌, eqb, ltb, leb, length, get_or, replicate, Result, Ok, Err}
 use Rattle.mem.specs.Loops.{over}
 use Rattle.mem.specs.Slice.{splice}
 use Rattle.mem.specs.Packed.{packed}
 use Rattle.rules.specs.Job.{job_stride, sum_over}
 use Rattle.rules.specs.Areas.{contour_areas}
 use Rattle.rules.specs.Mend.{Traced, traced, Mending, mended}
-use Rattle.rules.specs.declared.MendReply.{MendReply}
-use Rattle.rules.specs.declared.MendReply.TheVariants.{Mended, NotWhole, LengthsDisagree, ShortScratch, ListFull}
+use Rattle.rules.specs.declared.Mended.{Mended}
+use Rattle.rules.specs.declared.MendRefusal.{MendRefusal}
+use Rattle.rules.specs.declared.MendRefusal.TheVariants.{NotWhole, LengthsDisagree, ShortScratch, ListFull}
 
 -- what is lent: the lengths of the contours and their numbers, both mended in place; a list for the points that are lost; and scratch
 pub record MendLent : Type 0 where
@@ -103,20 +104,23 @@ mend_outcome b =
 -- ---- what is answered
 
 -- of 0 the second number is how many points were lost, the third how many are kept
-unfoldable pub mend_reply_of : MendOutcome → MendReply
-mend_reply_of notWhole = NotWhole
-mend_reply_of lengthsDisagree = LengthsDisagree
-mend_reply_of shortScratch = ShortScratch
-mend_reply_of listFull = ListFull
-mend_reply_of (mends ms) = Mended (length (lost_numbers ms)) (kept_count ms)
+unfoldable pub mend_reply_of : MendOutcome → Result Mended MendRefusal
+mend_reply_of notWhole = Err NotWhole
+mend_reply_of lengthsDisagree = Err LengthsDisagree
+mend_reply_of shortScratch = Err ShortScratch
+mend_reply_of listFull = Err ListFull
+mend_reply_of (mends ms) = Ok (record { lost = length (lost_numbers ms); kept = kept_count ms })
 
 -- a reply's three numbers
-unfoldable pub mend_words : MendReply → List ℕ
-mend_words (Mended lost kept) = 0 ∷ lost ∷ kept ∷ []
-mend_words LengthsDisagree = 2 ∷ 0 ∷ 0 ∷ []
-mend_words NotWhole = 80 ∷ 0 ∷ 0 ∷ []
-mend_words ListFull = 81 ∷ 0 ∷ 0 ∷ []
-mend_words ShortScratch = 82 ∷ 0 ∷ 0 ∷ []
+unfoldable pub mend_refusal_number : MendRefusal → ℕ
+mend_refusal_number LengthsDisagree = 2
+mend_refusal_number NotWhole = 80
+mend_refusal_number ListFull = 81
+mend_refusal_number ShortScratch = 82
+
+unfoldable pub mend_words : Result Mended MendRefusal → List ℕ
+mend_words (Ok m) = 0 ∷ m.lost ∷ m.kept ∷ []
+mend_words (Err r) = mend_refusal_number r ∷ 0 ∷ 0 ∷ []
 
 -- ---- what the buffers hold at the end
 

@@ -8,7 +8,7 @@ use Rattle.rules.specs.Lines.{ascii}
 use Rattle.rules.specs.Mend.{traced, trace_places, is_doubled, is_spike, is_at_fault, lowest_fault, takes_flag, lose_after, place_then, lose_two}
 use Rattle.rules.specs.Mend.{mend_at, mend_loop, mended, traced_numbers}
 use Rattle.rules.specs.MendCall.{MendLent, traced_from, mended_job, kept_lengths, kept_count, lost_numbers, traced_words, kept_words, vertices_in, are_whole}
-use Rattle.rules.specs.MendCall.{lengths_agree, longer, longest, is_short_scratch, is_list_full, mend_outcome, mend_reply_of, mend_words, scratch_wiped}
+use Rattle.rules.specs.MendCall.{lengths_agree, longer, longest, is_short_scratch, is_list_full, mend_outcome, mend_reply_of, mend_refusal_number, mend_words, scratch_wiped}
 use Rattle.rules.specs.MendCall.{mended_numbers, mend_exit_of, mend_exit, one_contour}
 use Rattle.rules.specs.MendSheet.{mended_sheet, heading_text, traced_line, contours_text, sheet_text, mend_text, lost_name, contour_lines_above, vertex_line_of}
 use Rattle.rules.specs.MendSheet.{lost_line, lost_lines, lost_text}
@@ -160,7 +160,7 @@ mendings =
 
 -- each row holds
 pub all_mend : AllMend mendings
-unfolding rules mendings word marked seen_of mend_ended MendHolds traced trace_places is_doubled is_spike is_at_fault lowest_fault takes_flag lose_after place_then lose_two mend_at mend_loop mended traced_numbers traced_from mended_job kept_lengths kept_count lost_numbers traced_words kept_words vertices_in are_whole lengths_agree longer longest is_short_scratch is_list_full mend_outcome mend_reply_of mend_words scratch_wiped mended_numbers mend_exit_of mend_exit one_contour mended_sheet heading_text traced_line contours_text sheet_text mend_text lost_name contour_lines_above vertex_line_of lost_line lost_lines lost_text
+unfolding rules mendings word marked seen_of mend_ended MendHolds traced trace_places is_doubled is_spike is_at_fault lowest_fault takes_flag lose_after place_then lose_two mend_at mend_loop mended traced_numbers traced_from mended_job kept_lengths kept_count lost_numbers traced_words kept_words vertices_in are_whole lengths_agree longer longest is_short_scratch is_list_full mend_outcome mend_reply_of mend_refusal_number mend_words scratch_wiped mended_numbers mend_exit_of mend_exit one_contour mended_sheet heading_text traced_line contours_text sheet_text mend_text lost_name contour_lines_above vertex_line_of lost_line lost_lines lost_text
 all_mend =
     refl & refl & refl & refl & refl & refl & refl & refl & refl & refl & refl & refl & refl & refl & refl & refl &
     refl & refl & refl & refl & refl & refl & refl & refl & refl & refl & refl & refl & refl & refl & refl & refl &

@@ -15,6 +15,7 @@ use Rattle.rules.specs.Stl.{facet_count, facet_bytes, file_of, file_length, coun
 use Rattle.rules.specs.Stl.{after_zeros, reading}
 use Rattle.rules.specs.StlCall.{mesh_facets, mesh_count, mesh_file, room_reply, stl_reply, stl_left, stl_exit, stl_number, stl_second, stl_words, facet_words}
 use Rattle.rules.specs.StlCall.{point_words, unstl_answer, unstl_reply, unstl_left, unstl_exit, unstl_number, unstl_second, unstl_words}
+use Rattle.rules.specs.StlCall.{stl_refusal_number, stl_refusal_second, unstl_refusal_number, unstl_refusal_second}
 use Rattle.rules.specs.StlText.{scale_of, carved, carved_text, stl_text, is_negative, exponent_of, fraction_of, significand, power_of, ten_thousandths}
 use Rattle.rules.specs.StlText.{four_digits, decimals, hex_digit, bits_text, is_shown, sign_text, coordinate_text, facets_name, facet_line, facet_lines}
 use Rattle.rules.specs.StlText.{reading_text, facets_text}
@@ -230,7 +231,7 @@ filings =
 
 -- each row holds
 pub all_filings : AllFile filings
-unfolding rules FileHolds span climb size odd units round mul div of_int of_fields of_bits to_bits blocks nibble pairs file text vertex_count polygon_count mesh_in corner_word link_word all_of any_of first_fault blocks_agree within_limits are_few buffers_hold corners_hold names_back link_holds links_hold or_fault soundness fault_number fault_second little from_little size_of height_of is_length is_scale coordinate corner_of point_of facet_of fan_of facets_of facet_count facet_bytes file_of file_length count_in right_length zero_due wrong_at first_wrong facet_in facets_in after_zeros reading mesh_facets mesh_count mesh_file room_reply stl_reply stl_left stl_exit stl_number stl_second stl_words facet_words point_words unstl_answer unstl_reply unstl_left unstl_exit unstl_number unstl_second unstl_words scale_of carved carved_text stl_text is_negative exponent_of fraction_of significand power_of ten_thousandths four_digits decimals hex_digit bits_text is_shown sign_text coordinate_text facets_name facet_line facet_lines reading_text facets_text
+unfolding rules FileHolds span climb size odd units round mul div of_int of_fields of_bits to_bits blocks nibble pairs file text vertex_count polygon_count mesh_in corner_word link_word all_of any_of first_fault blocks_agree within_limits are_few buffers_hold corners_hold names_back link_holds links_hold or_fault soundness fault_number fault_second little from_little size_of height_of is_length is_scale coordinate corner_of point_of facet_of fan_of facets_of facet_count facet_bytes file_of file_length count_in right_length zero_due wrong_at first_wrong facet_in facets_in after_zeros reading mesh_facets mesh_count mesh_file room_reply stl_reply stl_left stl_exit stl_refusal_number stl_refusal_second stl_number stl_second stl_words facet_words point_words unstl_answer unstl_reply unstl_left unstl_exit unstl_refusal_number unstl_refusal_second unstl_number unstl_second unstl_words scale_of carved carved_text stl_text is_negative exponent_of fraction_of significand power_of ten_thousandths four_digits decimals hex_digit bits_text is_shown sign_text coordinate_text facets_name facet_line facet_lines reading_text facets_text
 all_filings =
     refl & refl & refl & refl & refl & refl & refl & refl & refl & refl & refl & refl & refl & refl & refl & refl & refl & refl & refl & refl &
     refl & refl & refl & refl & refl & refl & refl & refl & refl & refl & refl & refl & refl & refl & refl & refl & refl & refl & refl & refl &

@@ -1,6 +1,10 @@
 // The by-value types that the rules and the code share. The rules themselves are in specs/.
 #![tactic(auto)]
 
+ghost use Rattle.std.specs.Prelude.{◌≡◌};
+ghost use Rattle.rules.specs.declared.Objection.TheVariants.{Unsound};
+ghost use Rattle.rules.specs.declared.StlRefusal.TheVariants.{BadMesh};
+
 // A place on the plane.
 #[derive(Clone, Copy, Debug, PartialEq, Eq)]
 pub struct Point {
@@ -134,10 +138,16 @@ pub struct Answer {
     pub header: Header,
 }
 
-// What a mending answers: how many points were lost and how many are kept; or one of 80, 2, 82 and 81.
-#[derive(Clone, Copy)]
-pub enum MendReply {
-    Mended(u64, u64),
+// What a mending answers that goes through: how many points were lost and how many are kept.
+#[derive(Clone, Copy, Debug, PartialEq, Eq)]
+pub struct Mended {
+    pub lost: u64,
+    pub kept: u64,
+}
+
+// Why a mending was refused: 80, 2, 82 and 81.
+#[derive(Clone, Copy, Debug, PartialEq, Eq)]
+pub enum MendRefusal {
     NotWhole,
     LengthsDisagree,
     ShortScratch,
@@ -146,37 +156,52 @@ pub enum MendReply {
 
 // What is wrong with a mesh that is handed in, before anything else is asked of it: 40, or 41 or 42 with the first polygon at
 // fault.
-#[derive(Clone, Copy)]
+#[derive(Clone, Copy, Debug, PartialEq, Eq)]
 pub enum Fault {
     BadBuffers,
     BadCorners(u64),
     BadLinks(u64),
 }
 
-// What the checker says of a mesh: it is accepted, or the first of refusals 40 to 44, in the order of their numbers.
-#[derive(Clone, Copy)]
-pub enum Verdict {
-    Accepted,
+// What the checker objects to in a mesh that it doesn't accept: the first of refusals 40 to 44, in the order of their numbers.
+#[derive(Clone, Copy, Debug, PartialEq, Eq)]
+pub enum Objection {
     Unsound(Fault),
     BadPortals(u64),
     BadArea,
 }
 
-// What writing a binary STL answers: how many facets were written; or what is wrong with the mesh (40 to 42); or 70, a cell
-// size or height that is no length; or 71, too few bytes lent.
-#[derive(Clone, Copy)]
-pub enum StlReply {
-    Written(u64),
+// What is wrong with a mesh is what the checker objects to.
+impl From<Fault> for Objection {
+    ghost from_gives = { λ f o. o ≡ Unsound f };
+
+    fn from(fault: Fault) -> Objection {
+        Objection::Unsound(fault)
+    }
+}
+
+// Why no binary STL was written: what is wrong with the mesh (40 to 42); or 70, a cell size or height that is no length; or
+// 71, too few bytes lent.
+#[derive(Clone, Copy, Debug, PartialEq, Eq)]
+pub enum StlRefusal {
     BadMesh(Fault),
     BadScale,
     ShortFile,
 }
 
-// What reading a binary STL answers: how many facets were taken; or 72, a length that doesn't fit the count; or 73, with the
-// first byte that is not zero where zero is due; or 71, too few words lent.
-#[derive(Clone, Copy)]
-pub enum UnstlReply {
-    Taken(u64),
+// What is wrong with a mesh is why it isn't written.
+impl From<Fault> for StlRefusal {
+    ghost from_gives = { λ f r. r ≡ BadMesh f };
+
+    fn from(fault: Fault) -> StlRefusal {
+        StlRefusal::BadMesh(fault)
+    }
+}
+
+// Why a binary STL was not taken: 72, a length that doesn't fit the count; or 73, with the first byte that is not zero where
+// zero is due; or 71, too few words lent.
+#[derive(Clone, Copy, Debug, PartialEq, Eq)]
+pub enum UnstlRefusal {
     BadLength,
     NotZero(u64),
     ShortPoints,

@@ -18,8 +18,8 @@ use Rattle.rules.specs.Handed.{Handed, vertex_count, polygon_count, mesh_in, cor
 use Rattle.rules.specs.Stl.{Scale, size_of, height_of, is_length, is_scale, facets_of, facet_count, little, file_of, file_length}
 use Rattle.rules.specs.StlCall.{mesh_facets, mesh_count, mesh_file, room_reply, stl_reply, stl_left, stl_exit}
 use Rattle.rules.specs.declared.Fault.{Fault}
-use Rattle.rules.specs.declared.StlReply.{StlReply}
-use Rattle.rules.specs.declared.StlReply.TheVariants.{Written, BadMesh, BadScale, ShortFile}
+use Rattle.rules.specs.declared.StlRefusal.{StlRefusal}
+use Rattle.rules.specs.declared.StlRefusal.TheVariants.{BadMesh, BadScale, ShortFile}
 use Rattle.laws.proofs.Handed.{sound_exactly}
 use Rattle.laws.proofs.HandedWords.{corners_read, corner_read}
 use Rattle.laws.proofs.Stl.{file_is_long}
@@ -35,10 +35,10 @@ use Rattle.stl.proofs.Fanning.{row_at}
 
 module _ {size height : Float} {nvp : ℕ} {vs ps : List ℕ} (file : List ℕ) (g : FileReady size height nvp vs ps) {n : ℕ}
     (e : n ≡ facet_count (polygons_in nvp (length ps / nvp) ps)) where
-  abbrev reply : StlReply
+  abbrev reply : Result ℕ StlRefusal
   reply = room_reply (count_of nvp ps) (length file)
 
-  pub file_short : length file < 84 + n * 50 → (ShortFile ≡ reply) × (file ≡ stl_left (file_in size height nvp vs ps) file ShortFile)
+  pub file_short : length file < 84 + n * 50 → (Err ShortFile ≡ reply) × (file ≡ stl_left (file_in size height nvp vs ps) file (Err ShortFile))
   unfolding room_reply file_length count_of stl_left
   file_short h = (rw (← e, lt-leb (84 + n * 50) (length file) h) refl, refl)
 
@@ -57,7 +57,7 @@ module _ {size height : Float} {nvp : ℕ} {vs ps : List ℕ} (file : List ℕ) 
 
   pub file_put : {w x : List ℕ} {r : ℕ} → 84 + n * 50 ≤ length file → w ≡ splice file 0 (replicate 80 0 ++ little n)
       → Printed (facets_bytes size height nvp (length ps / nvp) vs ps) w x 84 r
-      → (Written n ≡ reply) × (x ≡ stl_left (file_in size height nvp vs ps) file (Written n))
+      → (Ok n ≡ reply) × (x ≡ stl_left (file_in size height nvp vs ps) file (Ok n))
   unfolding room_reply file_length count_of stl_left file_in facets_bytes
   file_put {w} {x} {r} h q p =
       let fs = facets_of size height (vertices_in vs) (polygons_in nvp (length ps / nvp) ps) in
@@ -89,18 +89,18 @@ module _ {inches : Bool} {size height across up : Float} {a b : Bool} (m : Measu
   }
 
   module _ (nvp : ℕ) (vs ps file : List ℕ) where
-    abbrev sound_answer : StlReply
-    sound_answer = cond (is_scale (scale_in inches size height)) (room_reply (count_of nvp ps) (length file)) BadScale
+    abbrev sound_answer : Result ℕ StlRefusal
+    sound_answer = cond (is_scale (scale_in inches size height)) (room_reply (count_of nvp ps) (length file)) (Err BadScale)
 
-    abbrev sound_left : StlReply → List ℕ
+    abbrev sound_left : Result ℕ StlRefusal → List ℕ
     sound_left r = let s = scale_in inches size height in stl_left (file_in (size_of s) (height_of s) nvp vs ps) file r
 
-    pub scale_passes : {r : StlReply} {x : List ℕ} → (a && b) ≡ true
+    pub scale_passes : {r : Result ℕ StlRefusal} {x : List ℕ} → (a && b) ≡ true
         → (r ≡ room_reply (count_of nvp ps) (length file)) × (x ≡ stl_left (file_in across up nvp vs ps) file r) → (r ≡ sound_answer) × (x ≡ sound_left r)
     unfolding size_of height_of
     scale_passes t p = (rw (sym scale_is ∙ t) p.0, rw (← m.across_is, ← m.up_is) p.1)
 
-    pub scale_fails : (a && b) ≡ false → (BadScale ≡ sound_answer) × (file ≡ sound_left BadScale)
+    pub scale_fails : (a && b) ≡ false → (Err BadScale ≡ sound_answer) × (file ≡ sound_left (Err BadScale))
     unfolding stl_left
     scale_fails t = (rw (sym scale_is ∙ t) refl, refl)
 
@@ -140,21 +140,21 @@ module _ (nvp : ℕ) (vs ps ls : List ℕ) where
         }
 
     module _ (s : Scale) (file : List ℕ) where
-      left_so : {r : StlReply} {x : List ℕ} → r ≡ stl_reply mesh s (length file) → x ≡ stl_left (mesh_file mesh s) file r
+      left_so : {r : Result ℕ StlRefusal} {x : List ℕ} → r ≡ stl_reply mesh s (length file) → x ≡ stl_left (mesh_file mesh s) file r
           → (r ≡ stl_reply mesh s (length file)) × (x ≡ stl_exit mesh s file)
       unfolding stl_exit
       left_so e f = (e, f ∙ ap (stl_left (mesh_file mesh s) file) e)
 
-      pub sound_written : {r : StlReply} {x : List ℕ} → t ≡ (Ok tt)
-          → (r ≡ cond (is_scale s) (room_reply (count_of nvp ps) (length file)) BadScale)
+      pub sound_written : {r : Result ℕ StlRefusal} {x : List ℕ} → t ≡ (Ok tt)
+          → (r ≡ cond (is_scale s) (room_reply (count_of nvp ps) (length file)) (Err BadScale))
           × (x ≡ stl_left (file_in (size_of s) (height_of s) nvp vs ps) file r)
           → (r ≡ stl_reply mesh s (length file)) × (x ≡ stl_exit mesh s file)
       sound_written {r} {x} e p =
           left_so
-          (p.0 ∙ ap (λ (n : ℕ). cond (is_scale s) (room_reply n (length file)) BadScale) (sym count_is)
+          (p.0 ∙ ap (λ (n : ℕ). cond (is_scale s) (room_reply n (length file)) (Err BadScale)) (sym count_is)
           ∙ sym (sound_reply mesh s (length file) (sym t_is ∙ e)))
           (p.1 ∙ ap (λ (l : List ℕ). stl_left l file r) (sym (file_is s)))
 
-      pub broken_refused : {f : Fault} → t ≡ Err f → (BadMesh f ≡ stl_reply mesh s (length file)) × (file ≡ stl_exit mesh s file)
+      pub broken_refused : {f : Fault} → t ≡ Err f → (Err (BadMesh f) ≡ stl_reply mesh s (length file)) × (file ≡ stl_exit mesh s file)
       unfolding stl_left
       broken_refused {f} e = left_so (sym (broken_reply mesh s (length file) f (sym t_is ∙ e))) refl

@@ -7,33 +7,33 @@ use crate::bytes::get_u32;
 use crate::facets::{FACET_WORDS, get_facets, right_length};
 use crate::header::COUNT_AT;
 use crate::zeros::first_wrong;
-use rules::UnstlReply;
+use rules::UnstlRefusal;
 
 // The facets of a file that has passed 72 and 73; or 71.
-fn take_facets(file: &[u8], words: &mut [u32]) -> UnstlReply
+fn take_facets(file: &[u8], words: &mut [u32]) -> Result<u64, UnstlRefusal>
     requires { right_length file.now ≡ true }
     ensures answer { result ≡ unstl_answer (facets_read (facets_in file.now)) (length words.old) }
     ensures words { words.new ≡ unstl_left (point_words (facets_in file.now)) words.old result }
 {
     let n = get_u32(file, COUNT_AT) as usize;
     if words.len() < n * FACET_WORDS {
-        return UnstlReply::ShortPoints;
+        return Err(UnstlRefusal::ShortPoints);
     }
     get_facets(file, n, words);
-    UnstlReply::Taken(n as u64)
+    Ok(n as u64)
 }
 
 // A binary STL is read, and the patterns of its facets stand at the beginning of `words`, nine a facet; or the first refusal
 // that applies is given. Any bytes may be handed in.
-pub fn read_stl(file: &[u8], words: &mut [u32]) -> UnstlReply
+pub fn read_stl(file: &[u8], words: &mut [u32]) -> Result<u64, UnstlRefusal>
     ensures answer { result ≡ unstl_reply file.now (length words.old) }
     ensures words { words.new ≡ unstl_exit file.now words.old }
 {
     if right_length(file) {
         return match first_wrong(file) {
-            Some(i) => UnstlReply::NotZero(i as u64),
+            Some(i) => Err(UnstlRefusal::NotZero(i as u64)),
             None => take_facets(file, words),
         };
     }
-    UnstlReply::BadLength
+    Err(UnstlRefusal::BadLength)
 }

@@ -1,8 +1,8 @@
 // A mesh becomes a file: the refusals in their order, and then its bytes.
-ghost use Rattle.std.specs.Prelude.{◌≡◌, cond, length};
+ghost use Rattle.std.specs.Prelude.{◌≡◌, cond, length, Err};
 ghost use Rattle.rules.specs.Stl.{size_of, height_of, is_scale};
 ghost use Rattle.rules.specs.StlCall.{room_reply, stl_left, stl_reply, stl_exit};
-ghost use Rattle.rules.specs.declared.StlReply.TheVariants.{BadScale};
+ghost use Rattle.rules.specs.declared.StlRefusal.TheVariants.{BadScale};
 ghost use Rattle.checker.specs.Asked.{handed_in};
 ghost use Rattle.stl.specs.Steps.{scale_in, count_of, file_in, MeshSound, FileReady};
 
@@ -10,7 +10,7 @@ use crate::fans::{count_facets, put_facets};
 use crate::header::{FACET_BYTES, FRONT_BYTES, put_header};
 use crate::scale::{in_millimetres, is_length};
 use checker::check::soundness_of;
-use rules::StlReply;
+use rules::StlRefusal;
 
 // The file of a sound mesh whose size and height, in millimetres, are lengths; or 71.
 fn put_file(
@@ -20,7 +20,7 @@ fn put_file(
     vertices: &[u16],
     polygons: &[u16],
     file: &mut [u8],
-) -> StlReply
+) -> Result<u64, StlRefusal>
     requires { FileReady size height nvp vertices.now polygons.now }
     ensures answer { result ≡ room_reply (count_of nvp polygons.now) (length file.old) }
     ensures bytes { file.new ≡ stl_left (file_in size height nvp vertices.now polygons.now) file.old result }
@@ -28,11 +28,11 @@ fn put_file(
     let np = polygons.len() / nvp;
     let n = count_facets(nvp, np, polygons);
     if file.len() < FRONT_BYTES + n * FACET_BYTES {
-        return StlReply::ShortFile;
+        return Err(StlRefusal::ShortFile);
     }
     put_header(file, n as u32);
     put_facets(file, FRONT_BYTES, size, height, nvp, np, vertices, polygons);
-    StlReply::Written(n as u64)
+    Ok(n as u64)
 }
 
 // 70 and 71, of a sound mesh.
@@ -44,10 +44,10 @@ fn write_sound(
     vertices: &[u16],
     polygons: &[u16],
     file: &mut [u8],
-) -> StlReply
+) -> Result<u64, StlRefusal>
     requires { MeshSound nvp vertices.now polygons.now }
     ensures answer { result ≡ cond (is_scale (scale_in inches size height))
-        (room_reply (count_of nvp polygons.now) (length file.old)) BadScale }
+        (room_reply (count_of nvp polygons.now) (length file.old)) (Err BadScale) }
     ensures bytes { file.new ≡ (let s = scale_in inches size height in
         stl_left (file_in (size_of s) (height_of s) nvp vertices.now polygons.now) file.old result) }
 {
@@ -56,7 +56,7 @@ fn write_sound(
     if is_length(across) & is_length(up) {
         return put_file(nvp, across, up, vertices, polygons, file);
     }
-    StlReply::BadScale
+    Err(StlRefusal::BadScale)
 }
 
 // A mesh and its scale become a binary STL at the beginning of `file`, or the first refusal that applies is given. Any numbers
@@ -70,17 +70,12 @@ pub fn write_stl(
     polygons: &[u16],
     links: &[u32],
     file: &mut [u8],
-) -> StlReply
+) -> Result<u64, StlRefusal>
     ensures answer { result ≡ stl_reply (handed_in nvp vertices.now polygons.now links.now) (scale_in inches size height)
         (length file.old) }
     ensures bytes { file.new ≡ stl_exit (handed_in nvp vertices.now polygons.now links.now)
         (scale_in inches size height) file.old }
 {
-    let sound = soundness_of(nvp, vertices, polygons, links);
-    match sound {
-        Ok(()) => {
-            write_sound(nvp as usize, inches, size, height, vertices, polygons, file)
-        }
-        Err(fault) => StlReply::BadMesh(fault),
-    }
+    soundness_of(nvp, vertices, polygons, links)?;
+    write_sound(nvp as usize, inches, size, height, vertices, polygons, file)
 }

@@ -1,26 +1,22 @@
 -- What is written for a stored mesh, for a reply of the build and for a job; and what that asks for. Definitions only.
-use Rattle.std.specs.Prelude.{◌≡◌, List, ℕ, ◌*◌, ◌≤◌, length, take, Ok, Err}
+use Rattle.std.specs.Prelude.{◌≡◌, List, ℕ, ◌*◌, ◌≤◌, length, take, Result, Ok, Err}
 use Prim.{Unit}
 use Rattle.rules.specs.Checks.{vertex_stride}
 use Rattle.rules.specs.Replies.{Reply, refusal_number, refusal_second}
 use Rattle.rules.specs.Job.{sum_over}
 use Rattle.rules.specs.Sheet.{declared_most, outcome_of, refused_text}
-use Rattle.rules.specs.Handed.{fault_number, fault_second}
-use Rattle.rules.specs.StlCall.{mesh_file, stl_reply}
+use Rattle.rules.specs.StlCall.{mesh_file, stl_reply, stl_refusal_number, stl_refusal_second}
 use Rattle.rules.specs.StlText.{scale_of, carved_text}
-use Rattle.rules.specs.declared.StlReply.{StlReply}
-use Rattle.rules.specs.declared.StlReply.TheVariants.{Written, BadMesh, BadScale, ShortFile}
+use Rattle.rules.specs.declared.StlRefusal.{StlRefusal}
 use Rattle.checker.specs.Asked.{handed_in}
 use Rattle.sheet.specs.declared.heading.Heading.{Heading}
 use Rattle.sheet.specs.Reading.{sheet_of, with_lists}
 use Rattle.sheet.specs.Room.{out_most}
 
 -- the file, or the refusal's line
-unfoldable pub written_text : List ℕ → StlReply → List ℕ
-written_text file (Written n) = file
-written_text file (BadMesh f) = refused_text (fault_number f) (fault_second f)
-written_text file BadScale = refused_text 70 0
-written_text file ShortFile = refused_text 71 0
+unfoldable pub written_text : List ℕ → Result ℕ StlRefusal → List ℕ
+written_text file (Ok n) = file
+written_text file (Err r) = refused_text (stl_refusal_number r) (stl_refusal_second r)
 
 -- for the mesh of n polygons and k vertices in some buffers, with this many bytes lent
 unfoldable pub carved_in : Heading → ℕ → ℕ → List ℕ → List ℕ → List ℕ → ℕ → List ℕ

@@ -3,12 +3,12 @@ ghost use Rattle.std.specs.Prelude.{length};
 ghost use Rattle.lines.specs.Print.{Printed};
 ghost use Rattle.stlsheet.specs.Carving.{CarveReady, carved_in};
 
-use checker::numbers::{fault_number, fault_second};
 use plane::unit::thousandths;
-use rules::{StlReply, VERTEX_STRIDE};
+use rules::VERTEX_STRIDE;
 use sheet::heading::Heading;
 use sheet::rows::put_refused;
 use stl::header::{FACET_BYTES, FRONT_BYTES};
+use stl::numbers::{stl_refusal_number, stl_refusal_second};
 use stl::write_stl;
 
 // The file of the mesh of n polygons and k vertices that stands in the buffers, or a refusal's line. The answer is its length.
@@ -39,9 +39,9 @@ pub fn put_carved(
         out,
     );
     match reply {
-        StlReply::Written(facets) => FRONT_BYTES + facets as usize * FACET_BYTES,
-        StlReply::BadMesh(fault) => put_refused(out, fault_number(fault), fault_second(fault)),
-        StlReply::BadScale => put_refused(out, 70, 0),
-        StlReply::ShortFile => put_refused(out, 71, 0),
+        Ok(facets) => FRONT_BYTES + facets as usize * FACET_BYTES,
+        Err(refusal) => {
+            put_refused(out, stl_refusal_number(refusal), stl_refusal_second(refusal))
+        }
     }
 }

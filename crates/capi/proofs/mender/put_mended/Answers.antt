@@ -4,27 +4,12 @@ use Rattle.rules.specs.MendCall.{mend_words}
 use Rattle.capi.proofs.Mended.{reply_words}
 use Rattle.capi.proofs.mender.put_mended.Goals as goal
 
-pub returns-in-Mended : goal.returns-in-Mended
+pub returns-in-Ok : goal.returns-in-Ok
 unfolding mend_words
-returns-in-Mended c =
-    reply_words c.in-Mended.lost c.in-Mended.kept c.in-Mended.is refl c.put_three.ensures
+returns-in-Ok c =
+    reply_words c.in-Ok.mended.lost c.in-Ok.mended.kept c.in-Ok.is refl c.put_three.ensures
 
-pub returns-in-NotWhole : goal.returns-in-NotWhole
+pub returns-in-Err : goal.returns-in-Err
 unfolding mend_words
-returns-in-NotWhole c =
-    reply_words 0 0 c.in-NotWhole.is refl c.put_three-in-NotWhole.ensures
-
-pub returns-in-LengthsDisagree : goal.returns-in-LengthsDisagree
-unfolding mend_words
-returns-in-LengthsDisagree c =
-    reply_words 0 0 c.in-LengthsDisagree.is refl c.put_three-in-LengthsDisagree.ensures
-
-pub returns-in-ShortScratch : goal.returns-in-ShortScratch
-unfolding mend_words
-returns-in-ShortScratch c =
-    reply_words 0 0 c.in-ShortScratch.is refl c.put_three-in-ShortScratch.ensures
-
-pub returns-in-ListFull : goal.returns-in-ListFull
-unfolding mend_words
-returns-in-ListFull c =
-    reply_words 0 0 c.in-ListFull.is refl c.put_three-in-ListFull.ensures
+returns-in-Err c =
+    reply_words 0 0 c.in-Err.is (rw (← c.mend_refusal_number.ensures) refl) c.put_three-in-Err.ensures

@@ -13,26 +13,26 @@ nonzero_div-np c = omega (arith, c.requires.nvp_low)
 
 pub first_bad_corners-requires : goal.first_bad_corners-requires
 first_bad_corners-requires c =
-    rows_fit c.args.nvp c.args.vertices.now c.args.polygons.now c.args.links.now c.requires
+    rows_fit c.args.mesh.now.nvp c.args.mesh.now.vertices.now c.args.mesh.now.polygons.now c.args.mesh.now.links.now c.requires
 
 pub links_sound-requires : goal.links_sound-requires
 unfolding polygon_count
 links_sound-requires c =
-    (links_ready c.args.nvp c.args.vertices.now c.args.polygons.now c.args.links.now (rows_ready c.requires), refl)
+    (links_ready c.args.mesh.now.nvp c.args.mesh.now.vertices.now c.args.mesh.now.polygons.now c.args.mesh.now.links.now (rows_ready c.requires), refl)
 
 pub returns-in-Some : goal.returns-in-Some
 returns-in-Some c =
-    let m = handed_in c.args.nvp c.args.vertices.now c.args.polygons.now c.args.links.now in
+    let m = handed_in c.args.mesh.now.nvp c.args.mesh.now.vertices.now c.args.mesh.now.polygons.now c.args.mesh.now.links.now in
     let found : let m = m in
-    c.first_bad_corners.result ≡ first_fault (corners_hold m) (polygon_count m) = corners_first c.args.nvp c.args.vertices.now c.args.polygons.now
-    c.args.links.now c.requires c.first_bad_corners.ensures in
+    c.first_bad_corners.result ≡ first_fault (corners_hold m) (polygon_count m) = corners_first c.args.mesh.now.nvp c.args.mesh.now.vertices.now c.args.mesh.now.polygons.now
+    c.args.mesh.now.links.now c.requires c.first_bad_corners.ensures in
     fault_found BadCorners _ found c.in-Some.is
 
 pub returns-in-None : goal.returns-in-None
 returns-in-None c =
-    let m = handed_in c.args.nvp c.args.vertices.now c.args.polygons.now c.args.links.now in
+    let m = handed_in c.args.mesh.now.nvp c.args.mesh.now.vertices.now c.args.mesh.now.polygons.now c.args.mesh.now.links.now in
     let found : let m = m in
-    c.first_bad_corners.result ≡ first_fault (corners_hold m) (polygon_count m) = corners_first c.args.nvp c.args.vertices.now c.args.polygons.now
-    c.args.links.now c.requires c.first_bad_corners.ensures in
-    links_then c.args.nvp c.args.vertices.now c.args.polygons.now c.args.links.now c.links_sound.ensures
+    c.first_bad_corners.result ≡ first_fault (corners_hold m) (polygon_count m) = corners_first c.args.mesh.now.nvp c.args.mesh.now.vertices.now c.args.mesh.now.polygons.now
+    c.args.mesh.now.links.now c.requires c.first_bad_corners.ensures in
+    links_then c.args.mesh.now.nvp c.args.mesh.now.vertices.now c.args.mesh.now.polygons.now c.args.mesh.now.links.now c.links_sound.ensures
     ∙ none_found BadCorners _ found c.in-None.is

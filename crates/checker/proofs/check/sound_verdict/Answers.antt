@@ -12,20 +12,20 @@ first_bad_portals-requires c = (c.requires, refl)
 
 pub area_verdict-requires : goal.area_verdict-requires
 area_verdict-requires c =
-    mesh_ready c.args.nvp c.args.vertices.now c.args.polygons.now c.args.links.now c.requires
+    mesh_ready c.args.mesh.now.nvp c.args.mesh.now.vertices.now c.args.mesh.now.polygons.now c.args.mesh.now.links.now c.requires
 
 pub returns-in-Some : goal.returns-in-Some
 returns-in-Some c =
-    let asked = claim_in c.args.nvp c.args.w c.args.h c.args.border c.args.claim c.args.vertices.now c.args.polygons.now c.args.links.now in
+    let asked = claim_in c.args.mesh.now.nvp c.args.grid.w c.args.grid.h c.args.grid.border c.args.claim c.args.mesh.now.vertices.now c.args.mesh.now.polygons.now c.args.mesh.now.links.now in
     let found : c.first_bad_portals.result ≡ first_fault (portals_hold asked) (polygon_count asked.mesh) = let a = c.args in
-    portals_first a.nvp a.w a.h a.border a.claim a.vertices.now a.polygons.now a.links.now c.first_bad_portals.ensures in
+    portals_first a.mesh.now.nvp a.grid.w a.grid.h a.grid.border a.claim a.mesh.now.vertices.now a.mesh.now.polygons.now a.mesh.now.links.now c.first_bad_portals.ensures in
     portals_found asked found c.in-Some.is
 
 pub returns-in-None : goal.returns-in-None
 returns-in-None c =
-    let asked = claim_in c.args.nvp c.args.w c.args.h c.args.border c.args.claim c.args.vertices.now c.args.polygons.now c.args.links.now in
+    let asked = claim_in c.args.mesh.now.nvp c.args.grid.w c.args.grid.h c.args.grid.border c.args.claim c.args.mesh.now.vertices.now c.args.mesh.now.polygons.now c.args.mesh.now.links.now in
     let found : c.first_bad_portals.result ≡ first_fault (portals_hold asked) (polygon_count asked.mesh) = let a = c.args in
-    portals_first a.nvp a.w a.h a.border a.claim a.vertices.now a.polygons.now a.links.now c.first_bad_portals.ensures in
+    portals_first a.mesh.now.nvp a.grid.w a.grid.h a.grid.border a.claim a.mesh.now.vertices.now a.mesh.now.polygons.now a.mesh.now.links.now c.first_bad_portals.ensures in
     let a = c.args in
     portals_none asked found c.in-None.is
-    (area_last a.nvp a.w a.h a.border a.claim a.vertices.now a.polygons.now a.links.now c.ranges.claim c.area_verdict.ensures)
+    (area_last a.mesh.now.nvp a.grid.w a.grid.h a.grid.border a.claim a.mesh.now.vertices.now a.mesh.now.polygons.now a.mesh.now.links.now c.ranges.claim c.area_verdict.ensures)

@@ -15,53 +15,53 @@ use Rattle.checker.proofs.linked.links_hold.Goals as goal
 
 pub overflow_mul-from : goal.overflow_mul-from
 overflow_mul-from c =
-    let m = links_in c.args.nvp c.args.polygons.now c.args.links.now in
+    let m = links_in c.args.mesh.now.nvp c.args.mesh.now.polygons.now c.args.mesh.now.links.now in
     let inside : c.args.i < polygon_count m = omega (arith, c.requires.1, c.requires.2) in
-    let words : (c.args.i * c.args.nvp) + c.args.nvp ≤ length c.args.polygons.now = row_fits m c.requires.0 c.args.i inside in
+    let words : (c.args.i * c.args.mesh.now.nvp) + c.args.mesh.now.nvp ≤ length c.args.mesh.now.polygons.now = row_fits m c.requires.0 c.args.i inside in
     record { fits = omega (arith, words) }
 
 pub corners_end-to-requires : goal.corners_end-to-requires
 corners_end-to-requires c =
-    let m = links_in c.args.nvp c.args.polygons.now c.args.links.now in
+    let m = links_in c.args.mesh.now.nvp c.args.mesh.now.polygons.now c.args.mesh.now.links.now in
     let inside : c.args.i < polygon_count m = omega (arith, c.requires.1, c.requires.2) in
-    let words : (c.args.i * c.args.nvp) + c.args.nvp ≤ length c.args.polygons.now = row_fits m c.requires.0 c.args.i inside in
+    let words : (c.args.i * c.args.mesh.now.nvp) + c.args.mesh.now.nvp ≤ length c.args.mesh.now.polygons.now = row_fits m c.requires.0 c.args.i inside in
     words
 
-pub offset_bounds-polygons-from : goal.offset_bounds-polygons-from
-offset_bounds-polygons-from c =
-    let m = links_in c.args.nvp c.args.polygons.now c.args.links.now in
+pub offset_bounds-mesh-from : goal.offset_bounds-mesh-from
+offset_bounds-mesh-from c =
+    let m = links_in c.args.mesh.now.nvp c.args.mesh.now.polygons.now c.args.mesh.now.links.now in
     let inside : c.args.i < polygon_count m = omega (arith, c.requires.1, c.requires.2) in
-    let words : (c.args.i * c.args.nvp) + c.args.nvp ≤ length c.args.polygons.now = row_fits m c.requires.0 c.args.i inside in
+    let words : (c.args.i * c.args.mesh.now.nvp) + c.args.mesh.now.nvp ≤ length c.args.mesh.now.polygons.now = row_fits m c.requires.0 c.args.i inside in
     record { fits = omega (arith, words) }
 
 pub slice_bounds-sides_hold-end : goal.slice_bounds-sides_hold-end
 slice_bounds-sides_hold-end c =
-    let m = links_in c.args.nvp c.args.polygons.now c.args.links.now in
+    let m = links_in c.args.mesh.now.nvp c.args.mesh.now.polygons.now c.args.mesh.now.links.now in
     let inside : c.args.i < polygon_count m = omega (arith, c.requires.1, c.requires.2) in
-    let words : (c.args.i * c.args.nvp) + c.args.nvp ≤ length c.args.polygons.now = row_fits m c.requires.0 c.args.i inside in
+    let words : (c.args.i * c.args.mesh.now.nvp) + c.args.mesh.now.nvp ≤ length c.args.mesh.now.polygons.now = row_fits m c.requires.0 c.args.i inside in
     omega (arith, words, c.corners_end-to.ensures.within)
 
-pub offset_bounds-links-from : goal.offset_bounds-links-from
-offset_bounds-links-from c =
-    let m = links_in c.args.nvp c.args.polygons.now c.args.links.now in
+pub offset_bounds-mesh-from-2 : goal.offset_bounds-mesh-from-2
+offset_bounds-mesh-from-2 c =
+    let m = links_in c.args.mesh.now.nvp c.args.mesh.now.polygons.now c.args.mesh.now.links.now in
     let inside : c.args.i < polygon_count m = omega (arith, c.requires.1, c.requires.2) in
-    let linked : (c.args.i * c.args.nvp) + c.args.nvp ≤ length c.args.links.now = links_fit m c.requires.0 c.args.i inside in
+    let linked : (c.args.i * c.args.mesh.now.nvp) + c.args.mesh.now.nvp ≤ length c.args.mesh.now.links.now = links_fit m c.requires.0 c.args.i inside in
     record { fits = omega (arith, linked) }
 
 pub slice_bounds-sides_hold-end-2 : goal.slice_bounds-sides_hold-end-2
 slice_bounds-sides_hold-end-2 c =
-    let m = links_in c.args.nvp c.args.polygons.now c.args.links.now in
+    let m = links_in c.args.mesh.now.nvp c.args.mesh.now.polygons.now c.args.mesh.now.links.now in
     let inside : c.args.i < polygon_count m = omega (arith, c.requires.1, c.requires.2) in
-    let linked : (c.args.i * c.args.nvp) + c.args.nvp ≤ length c.args.links.now = links_fit m c.requires.0 c.args.i inside in
+    let linked : (c.args.i * c.args.mesh.now.nvp) + c.args.mesh.now.nvp ≤ length c.args.mesh.now.links.now = links_fit m c.requires.0 c.args.i inside in
     omega (arith, linked, c.corners_end-to.ensures.within)
 
 pub sides_hold-requires : goal.sides_hold-requires
 sides_hold-requires c =
-    let m = links_in c.args.nvp c.args.polygons.now c.args.links.now in
-    let start = c.args.i * c.args.nvp in
+    let m = links_in c.args.mesh.now.nvp c.args.mesh.now.polygons.now c.args.mesh.now.links.now in
+    let start = c.args.i * c.args.mesh.now.nvp in
     let n = c.corners_end-to.result - start in
     let inside : c.args.i < polygon_count m = omega (arith, c.requires.1, c.requires.2) in
-    let lent : PolygonAt m c.args.np c.args.i (view c.args.polygons.now start n) (view c.args.links.now start n) =
+    let lent : PolygonAt m c.args.np c.args.i (view c.args.mesh.now.polygons.now start n) (view c.args.mesh.now.links.now start n) =
     polygon_lent m c.requires.0 c.args.i inside c.corners_end-to.result c.corners_end-to.ensures c.requires.1 in
     lent
 
@@ -70,47 +70,47 @@ overflow_sub-n c = omega (arith, c.corners_end-to.ensures.count)
 
 pub overflow_add-from : goal.overflow_add-from
 overflow_add-from c =
-    let m = links_in c.args.nvp c.args.polygons.now c.args.links.now in
+    let m = links_in c.args.mesh.now.nvp c.args.mesh.now.polygons.now c.args.mesh.now.links.now in
     let inside : c.args.i < polygon_count m = omega (arith, c.requires.1, c.requires.2) in
-    let linked : (c.args.i * c.args.nvp) + c.args.nvp ≤ length c.args.links.now = links_fit m c.requires.0 c.args.i inside in
+    let linked : (c.args.i * c.args.mesh.now.nvp) + c.args.mesh.now.nvp ≤ length c.args.mesh.now.links.now = links_fit m c.requires.0 c.args.i inside in
     record { fits = omega (arith, linked) }
 
-pub offset_bounds-links-from-then-sides_hold : goal.offset_bounds-links-from-then-sides_hold
-offset_bounds-links-from-then-sides_hold c =
-    let m = links_in c.args.nvp c.args.polygons.now c.args.links.now in
+pub offset_bounds-mesh-from-then-sides_hold : goal.offset_bounds-mesh-from-then-sides_hold
+offset_bounds-mesh-from-then-sides_hold c =
+    let m = links_in c.args.mesh.now.nvp c.args.mesh.now.polygons.now c.args.mesh.now.links.now in
     let inside : c.args.i < polygon_count m = omega (arith, c.requires.1, c.requires.2) in
-    let linked : (c.args.i * c.args.nvp) + c.args.nvp ≤ length c.args.links.now = links_fit m c.requires.0 c.args.i inside in
+    let linked : (c.args.i * c.args.mesh.now.nvp) + c.args.mesh.now.nvp ≤ length c.args.mesh.now.links.now = links_fit m c.requires.0 c.args.i inside in
     record { fits = omega (arith, linked) }
 
 pub slice_bounds-are_unlinked-end : goal.slice_bounds-are_unlinked-end
 slice_bounds-are_unlinked-end c =
-    let m = links_in c.args.nvp c.args.polygons.now c.args.links.now in
+    let m = links_in c.args.mesh.now.nvp c.args.mesh.now.polygons.now c.args.mesh.now.links.now in
     let inside : c.args.i < polygon_count m = omega (arith, c.requires.1, c.requires.2) in
-    let linked : (c.args.i * c.args.nvp) + c.args.nvp ≤ length c.args.links.now = links_fit m c.requires.0 c.args.i inside in
+    let linked : (c.args.i * c.args.mesh.now.nvp) + c.args.mesh.now.nvp ≤ length c.args.mesh.now.links.now = links_fit m c.requires.0 c.args.i inside in
     omega (arith, linked)
 
 pub returns-then-sides_hold : goal.returns-then-sides_hold
 returns-then-sides_hold c =
-    let m = links_in c.args.nvp c.args.polygons.now c.args.links.now in
-    let start = c.args.i * c.args.nvp in
+    let m = links_in c.args.mesh.now.nvp c.args.mesh.now.polygons.now c.args.mesh.now.links.now in
+    let start = c.args.i * c.args.mesh.now.nvp in
     let n = c.corners_end-to.result - start in
     let inside : c.args.i < polygon_count m = omega (arith, c.requires.1, c.requires.2) in
-    let linked : start + c.args.nvp ≤ length c.args.links.now = links_fit m c.requires.0 c.args.i inside in
+    let linked : start + c.args.mesh.now.nvp ≤ length c.args.mesh.now.links.now = links_fit m c.requires.0 c.args.i inside in
     let counted : n ≡ length (corners_at (mesh_in m) c.args.i) = count_is m c.requires.0 c.args.i inside c.corners_end-to.result c.corners_end-to.ensures in
-    let lent : PolygonAt m c.args.np c.args.i (view c.args.polygons.now start n) (view c.args.links.now start n) =
+    let lent : PolygonAt m c.args.np c.args.i (view c.args.mesh.now.polygons.now start n) (view c.args.mesh.now.links.now start n) =
     polygon_lent m c.requires.0 c.args.i inside c.corners_end-to.result c.corners_end-to.ensures c.requires.1 in
     let said : c.sides_hold.result ≡ all_of (link_holds (mesh_in m) c.args.i) 0 (length (corners_at (mesh_in m) c.args.i)) =
     c.sides_hold.ensures ∙ ap (λ (l : List ℕ). all_of (link_holds (mesh_in m) c.args.i) 0 (length l)) lent.corners in
     c.are_unlinked.ensures
-    ∙ past_decides m c.args.i said c.if-sides_hold.true ((start + c.args.nvp - start)) n (omega arith) counted linked
+    ∙ past_decides m c.args.i said c.if-sides_hold.true ((start + c.args.mesh.now.nvp - start)) n (omega arith) counted linked
 
 pub returns : goal.returns
 returns c =
-    let m = links_in c.args.nvp c.args.polygons.now c.args.links.now in
-    let start = c.args.i * c.args.nvp in
+    let m = links_in c.args.mesh.now.nvp c.args.mesh.now.polygons.now c.args.mesh.now.links.now in
+    let start = c.args.i * c.args.mesh.now.nvp in
     let n = c.corners_end-to.result - start in
     let inside : c.args.i < polygon_count m = omega (arith, c.requires.1, c.requires.2) in
-    let lent : PolygonAt m c.args.np c.args.i (view c.args.polygons.now start n) (view c.args.links.now start n) =
+    let lent : PolygonAt m c.args.np c.args.i (view c.args.mesh.now.polygons.now start n) (view c.args.mesh.now.links.now start n) =
     polygon_lent m c.requires.0 c.args.i inside c.corners_end-to.result c.corners_end-to.ensures c.requires.1 in
     let said : c.sides_hold.result ≡ all_of (link_holds (mesh_in m) c.args.i) 0 (length (corners_at (mesh_in m) c.args.i)) =
     c.sides_hold.ensures ∙ ap (λ (l : List ℕ). all_of (link_holds (mesh_in m) c.args.i) 0 (length l)) lent.corners in

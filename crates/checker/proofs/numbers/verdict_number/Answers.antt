@@ -1,20 +1,12 @@
--- `checker::numbers::verdict_number` meets its contract: each arm is the rules' number with its variant known. Assumes nothing.
+-- `checker::numbers::verdict_number` meets its contract: of an objection it is the objection's. Assumes nothing.
 use mathlib.Core.Path.{refl}
 use Rattle.rules.specs.Checker.{verdict_number}
 use Rattle.checker.proofs.numbers.verdict_number.Goals as goal
 
-pub returns-in-Accepted : goal.returns-in-Accepted
+pub returns-in-Ok : goal.returns-in-Ok
 unfolding verdict_number
-returns-in-Accepted c = rw c.in-Accepted.is refl
+returns-in-Ok c = rw c.in-Ok.is refl
 
-pub returns-in-Unsound : goal.returns-in-Unsound
+pub returns-in-Err : goal.returns-in-Err
 unfolding verdict_number
-returns-in-Unsound c = rw c.in-Unsound.is c.fault_number.ensures
-
-pub returns-in-BadPortals : goal.returns-in-BadPortals
-unfolding verdict_number
-returns-in-BadPortals c = rw c.in-BadPortals.is refl
-
-pub returns-in-BadArea : goal.returns-in-BadArea
-unfolding verdict_number
-returns-in-BadArea c = rw c.in-BadArea.is refl
+returns-in-Err c = rw c.in-Err.is c.objection_number.ensures

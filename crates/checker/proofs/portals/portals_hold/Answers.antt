@@ -13,65 +13,65 @@ use Rattle.checker.proofs.portals.portals_hold.Goals as goal
 
 pub overflow_mul-from : goal.overflow_mul-from
 overflow_mul-from c =
-    let m = handed_in c.args.nvp c.args.vertices.now c.args.polygons.now c.args.links.now in
+    let m = handed_in c.args.mesh.now.nvp c.args.mesh.now.vertices.now c.args.mesh.now.polygons.now c.args.mesh.now.links.now in
     let ready : RowsReady m = rows_ready c.requires.0.buffers in
-    let words : (c.args.i * c.args.nvp) + c.args.nvp ≤ length c.args.polygons.now = row_fits m ready c.args.i c.requires.1 in
+    let words : (c.args.i * c.args.mesh.now.nvp) + c.args.mesh.now.nvp ≤ length c.args.mesh.now.polygons.now = row_fits m ready c.args.i c.requires.1 in
     record { fits = omega (arith, words) }
 
 pub corners_end-to-requires : goal.corners_end-to-requires
 corners_end-to-requires c =
-    let m = handed_in c.args.nvp c.args.vertices.now c.args.polygons.now c.args.links.now in
+    let m = handed_in c.args.mesh.now.nvp c.args.mesh.now.vertices.now c.args.mesh.now.polygons.now c.args.mesh.now.links.now in
     let ready : RowsReady m = rows_ready c.requires.0.buffers in
-    let words : (c.args.i * c.args.nvp) + c.args.nvp ≤ length c.args.polygons.now = row_fits m ready c.args.i c.requires.1 in
+    let words : (c.args.i * c.args.mesh.now.nvp) + c.args.mesh.now.nvp ≤ length c.args.mesh.now.polygons.now = row_fits m ready c.args.i c.requires.1 in
     words
 
-pub offset_bounds-polygons-from : goal.offset_bounds-polygons-from
-offset_bounds-polygons-from c =
-    let m = handed_in c.args.nvp c.args.vertices.now c.args.polygons.now c.args.links.now in
+pub offset_bounds-mesh-from : goal.offset_bounds-mesh-from
+offset_bounds-mesh-from c =
+    let m = handed_in c.args.mesh.now.nvp c.args.mesh.now.vertices.now c.args.mesh.now.polygons.now c.args.mesh.now.links.now in
     let ready : RowsReady m = rows_ready c.requires.0.buffers in
-    let words : (c.args.i * c.args.nvp) + c.args.nvp ≤ length c.args.polygons.now = row_fits m ready c.args.i c.requires.1 in
+    let words : (c.args.i * c.args.mesh.now.nvp) + c.args.mesh.now.nvp ≤ length c.args.mesh.now.polygons.now = row_fits m ready c.args.i c.requires.1 in
     record { fits = omega (arith, words) }
 
 pub slice_bounds-sides_bear-end : goal.slice_bounds-sides_bear-end
 slice_bounds-sides_bear-end c =
-    let m = handed_in c.args.nvp c.args.vertices.now c.args.polygons.now c.args.links.now in
+    let m = handed_in c.args.mesh.now.nvp c.args.mesh.now.vertices.now c.args.mesh.now.polygons.now c.args.mesh.now.links.now in
     let ready : RowsReady m = rows_ready c.requires.0.buffers in
-    let words : (c.args.i * c.args.nvp) + c.args.nvp ≤ length c.args.polygons.now = row_fits m ready c.args.i c.requires.1 in
+    let words : (c.args.i * c.args.mesh.now.nvp) + c.args.mesh.now.nvp ≤ length c.args.mesh.now.polygons.now = row_fits m ready c.args.i c.requires.1 in
     omega (arith, words, c.corners_end-to.ensures.within)
 
-pub offset_bounds-links-from : goal.offset_bounds-links-from
-offset_bounds-links-from c =
-    let m = handed_in c.args.nvp c.args.vertices.now c.args.polygons.now c.args.links.now in
+pub offset_bounds-mesh-from-2 : goal.offset_bounds-mesh-from-2
+offset_bounds-mesh-from-2 c =
+    let m = handed_in c.args.mesh.now.nvp c.args.mesh.now.vertices.now c.args.mesh.now.polygons.now c.args.mesh.now.links.now in
     let ready : RowsReady m = rows_ready c.requires.0.buffers in
-    let linked : (c.args.i * c.args.nvp) + c.args.nvp ≤ length c.args.links.now = links_fit m ready c.args.i c.requires.1 in
+    let linked : (c.args.i * c.args.mesh.now.nvp) + c.args.mesh.now.nvp ≤ length c.args.mesh.now.links.now = links_fit m ready c.args.i c.requires.1 in
     record { fits = omega (arith, linked) }
 
 pub slice_bounds-sides_bear-end-2 : goal.slice_bounds-sides_bear-end-2
 slice_bounds-sides_bear-end-2 c =
-    let m = handed_in c.args.nvp c.args.vertices.now c.args.polygons.now c.args.links.now in
+    let m = handed_in c.args.mesh.now.nvp c.args.mesh.now.vertices.now c.args.mesh.now.polygons.now c.args.mesh.now.links.now in
     let ready : RowsReady m = rows_ready c.requires.0.buffers in
-    let linked : (c.args.i * c.args.nvp) + c.args.nvp ≤ length c.args.links.now = links_fit m ready c.args.i c.requires.1 in
+    let linked : (c.args.i * c.args.mesh.now.nvp) + c.args.mesh.now.nvp ≤ length c.args.mesh.now.links.now = links_fit m ready c.args.i c.requires.1 in
     omega (arith, linked, c.corners_end-to.ensures.within)
 
 pub sides_bear-requires : goal.sides_bear-requires
 sides_bear-requires c =
-    let m = handed_in c.args.nvp c.args.vertices.now c.args.polygons.now c.args.links.now in
-    let start = c.args.i * c.args.nvp in
+    let m = handed_in c.args.mesh.now.nvp c.args.mesh.now.vertices.now c.args.mesh.now.polygons.now c.args.mesh.now.links.now in
+    let start = c.args.i * c.args.mesh.now.nvp in
     let n = c.corners_end-to.result - start in
     let ready : RowsReady m = rows_ready c.requires.0.buffers in
-    let lent : PolygonAt m (polygon_count m) c.args.i (view c.args.polygons.now start n) (view c.args.links.now start n) =
+    let lent : PolygonAt m (polygon_count m) c.args.i (view c.args.mesh.now.polygons.now start n) (view c.args.mesh.now.links.now start n) =
     polygon_lent m ready c.args.i c.requires.1 c.corners_end-to.result c.corners_end-to.ensures refl in
-    sides_ready c.args.nvp c.args.vertices.now c.args.polygons.now c.args.links.now c.args.i lent.corners
+    sides_ready c.args.mesh.now.nvp c.args.mesh.now.vertices.now c.args.mesh.now.polygons.now c.args.mesh.now.links.now c.args.i lent.corners
     c.requires.0 c.requires.1 lent.alike
 
 pub returns : goal.returns
 returns c =
-    let m = handed_in c.args.nvp c.args.vertices.now c.args.polygons.now c.args.links.now in
-    let start = c.args.i * c.args.nvp in
+    let m = handed_in c.args.mesh.now.nvp c.args.mesh.now.vertices.now c.args.mesh.now.polygons.now c.args.mesh.now.links.now in
+    let start = c.args.i * c.args.mesh.now.nvp in
     let n = c.corners_end-to.result - start in
     let ready : RowsReady m = rows_ready c.requires.0.buffers in
-    let lent : PolygonAt m (polygon_count m) c.args.i (view c.args.polygons.now start n) (view c.args.links.now start n) =
+    let lent : PolygonAt m (polygon_count m) c.args.i (view c.args.mesh.now.polygons.now start n) (view c.args.mesh.now.links.now start n) =
     polygon_lent m ready c.args.i c.requires.1 c.corners_end-to.result c.corners_end-to.ensures refl in
     c.sides_bear.ensures
-    ∙ bears_is c.args.nvp c.args.vertices.now c.args.polygons.now c.args.links.now c.args.i lent.corners
-    c.args.w c.args.h c.args.border lent.links
+    ∙ bears_is c.args.mesh.now.nvp c.args.mesh.now.vertices.now c.args.mesh.now.polygons.now c.args.mesh.now.links.now c.args.i lent.corners
+    c.args.grid.w c.args.grid.h c.args.grid.border lent.links

@@ -8,7 +8,7 @@ use Rattle.checker.proofs.portals.side_bears.Goals as goal
 
 pub returns-then-l-lt-NONE : goal.returns-then-l-lt-NONE
 returns-then-l-lt-NONE c =
-    not_open c.requires.0 c.args.w c.args.h c.args.border c.args.j c.requires.1 c.if-l-lt-NONE.true
+    not_open c.requires.0 c.args.grid.w c.args.grid.h c.args.grid.border c.args.j c.requires.1 c.if-l-lt-NONE.true
 
 pub offset_bounds-own-e : goal.offset_bounds-own-e
 offset_bounds-own-e c =
@@ -27,5 +27,5 @@ open_link-requires c =
 
 pub returns : goal.returns
 returns c =
-    open_decides c.requires.0 c.args.w c.args.h c.args.border c.args.j c.requires.1 c.if-l-lt-NONE.false c.next-e.result
+    open_decides c.requires.0 c.args.grid.w c.args.grid.h c.args.grid.border c.args.j c.requires.1 c.if-l-lt-NONE.false c.next-e.result
     c.open_link.result c.next-e.ensures c.open_link.ensures

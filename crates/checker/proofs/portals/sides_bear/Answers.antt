@@ -6,10 +6,10 @@ pub loop-j-init : goal.loop-j-init
 loop-j-init c = pass_begin _ _ _
 
 pub loop-j-preserved : goal.loop-j-preserved
-loop-j-preserved c = pass_next c.loop-j.invariant c.loop-j-test.true (sym c.side_bears.ensures ∙ c.if-side_bears.true)
+loop-j-preserved c = pass_next c.loop-j.invariant c.loop-j-test.true (sym c.side_bears.ensures ∙ c.if-not-side_bears.false)
 
-pub returns-else-side_bears : goal.returns-else-side_bears
-returns-else-side_bears c = pass_fails c.loop-j.invariant c.loop-j-test.true (sym c.side_bears.ensures ∙ c.if-side_bears.false)
+pub returns-then-not-side_bears : goal.returns-then-not-side_bears
+returns-then-not-side_bears c = pass_fails c.loop-j.invariant c.loop-j-test.true (sym c.side_bears.ensures ∙ c.if-not-side_bears.true)
 
 pub returns : goal.returns
 returns c = pass_end c.loop-j.invariant c.loop-j-test.false

@@ -1,20 +1,12 @@
--- `stl::numbers::stl_second` meets its contract: each arm is the rules' second number with its variant known. Assumes nothing.
+-- `stl::numbers::stl_second` meets its contract: of a refusal it is the refusal's. Assumes nothing.
 use mathlib.Core.Path.{refl}
 use Rattle.rules.specs.StlCall.{stl_second}
 use Rattle.stl.proofs.numbers.stl_second.Goals as goal
 
-pub returns-in-Written : goal.returns-in-Written
+pub returns-in-Ok : goal.returns-in-Ok
 unfolding stl_second
-returns-in-Written c = rw c.in-Written.is refl
+returns-in-Ok c = rw c.in-Ok.is refl
 
-pub returns-in-BadMesh : goal.returns-in-BadMesh
+pub returns-in-Err : goal.returns-in-Err
 unfolding stl_second
-returns-in-BadMesh c = rw c.in-BadMesh.is c.fault_second.ensures
-
-pub returns-in-BadScale : goal.returns-in-BadScale
-unfolding stl_second
-returns-in-BadScale c = rw c.in-BadScale.is refl
-
-pub returns-in-ShortFile : goal.returns-in-ShortFile
-unfolding stl_second
-returns-in-ShortFile c = rw c.in-ShortFile.is refl
+returns-in-Err c = rw c.in-Err.is c.stl_refusal_second.ensures

@@ -1,20 +1,12 @@
--- `stl::numbers::unstl_number` meets its contract: each arm is the rules' number with its variant known. Assumes nothing.
+-- `stl::numbers::unstl_number` meets its contract: of a refusal it is the refusal's. Assumes nothing.
 use mathlib.Core.Path.{refl}
 use Rattle.rules.specs.StlCall.{unstl_number}
 use Rattle.stl.proofs.numbers.unstl_number.Goals as goal
 
-pub returns-in-Taken : goal.returns-in-Taken
+pub returns-in-Ok : goal.returns-in-Ok
 unfolding unstl_number
-returns-in-Taken c = rw c.in-Taken.is refl
+returns-in-Ok c = rw c.in-Ok.is refl
 
-pub returns-in-BadLength : goal.returns-in-BadLength
+pub returns-in-Err : goal.returns-in-Err
 unfolding unstl_number
-returns-in-BadLength c = rw c.in-BadLength.is refl
-
-pub returns-in-NotZero : goal.returns-in-NotZero
-unfolding unstl_number
-returns-in-NotZero c = rw c.in-NotZero.is refl
-
-pub returns-in-ShortPoints : goal.returns-in-ShortPoints
-unfolding unstl_number
-returns-in-ShortPoints c = rw c.in-ShortPoints.is refl
+returns-in-Err c = rw c.in-Err.is c.unstl_refusal_number.ensures

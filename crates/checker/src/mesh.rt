@@ -1,0 +1,18 @@
+// What the checker is asked, as its steps hand it on.
+
+// A mesh from elsewhere: how many words a polygon has, and its vertices, polygons and links.
+#[derive(Clone, Copy)]
+pub struct Mesh<'a> {
+    pub nvp: usize,
+    pub vertices: &'a [u16],
+    pub polygons: &'a [u16],
+    pub links: &'a [u32],
+}
+
+// The grid that it is said to lie on.
+#[derive(Clone, Copy)]
+pub struct Grid {
+    pub w: u16,
+    pub h: u16,
+    pub border: u16,
+}
