@@ -37,7 +37,7 @@ returns-in-Some c =
     let good_line : PlaceGood c.args.text.now c.args.p.at c.in-Some.place = good_read _ _ _ _ _ c.read_line.ensures c.in-Some.is in
     place_put c.requires (good_line)
 
-pub returns : goal.returns
+pub returns-in-None : goal.returns-in-None
 unfolding v_name ascii
-returns c =
+returns-in-None c =
     place_bad c.requires (bad_read _ _ _ _ _ c.read_line.ensures c.in-None.is) c.stopped.ensures
