@@ -1,5 +1,6 @@
 -- The mesh line: four cells, of which the last one is read as a whole number and the three before it as a line of two numbers. Assumes nothing.
 use Rattle.std.specs.Prelude.{Option, Some, None}
+use Rattle.std.proofs.lemmas.Option.{none-some, same_Some}
 use mathlib.Core.Path.{◌≡◌, refl, sym, ap, ◌∙◌}
 use mathlib.Core.Bool.{true, false, true≢false}
 use mathlib.Core.List.{List, [], ◌∷◌, ◌++◌}
@@ -16,10 +17,8 @@ use Rattle.rules.specs.Lines.{tab_byte, parts, Line, Numbers, numbers, malformed
 use Rattle.rules.specs.Sheet.{mesh_name, Read, need}
 use Rattle.rules.specs.CheckSheet.{count_most, total_most, need_whole, need_mesh}
 use Rattle.rules.specs.Checker.{Claim}
-use Rattle.lines.specs.declared.numbers.Four.{Four}
-use Rattle.lines.specs.Read.{four_of, LastCell}
+use Rattle.lines.specs.Read.{said, LastCell}
 use Rattle.lines.specs.Taken.{Limited, limited}
-use Rattle.checksheet.specs.declared.counts.MeshLine.TheVariants.{Counted, Missing}
 use Rattle.checksheet.specs.Reading.{MeshIs}
 
 -- the limits of the two counts
@@ -27,7 +26,7 @@ abbrev count_mosts : List ℕ
 count_mosts = count_most ∷ count_most ∷ []
 
 -- not four cells
-pub other_count : (l : Line) → length l ≢ 4 → MeshIs l Missing
+pub other_count : (l : Line) → length l ≢ 4 → MeshIs l None
 unfolding MeshIs need_mesh
 other_count l h line f = rw (ne_eqb (length l) 4 h, need_mesh) refl
 
@@ -41,46 +40,31 @@ four_cells l a z e h line f =
     let y : get_or l 3 [] ≡ z = ap (λ (m : Line). get_or m 3 []) e ∙ get_or_at a z [] [] 3 three in
     rw (eq-eqb (length l) 4 h, need_mesh, x, y) refl
 
--- the numbers that a reader's answer tells
-pub record FourGood (l : Line) (r : Four) : Type 0 where
-  pub ns : List ℕ
+-- the counts that a reader's answer tells
+pub record Counts (l : Line) (ns : List ℕ) : Type 0 where
   pub says : numbers_of mesh_name 0 count_mosts l ≡ numbers ns
   pub limits : Limited 0 count_mosts ns
-  pub a : r.a ≡ get_or ns 0 0
-  pub b : r.b ≡ get_or ns 1 0
 
-module _ (a : Line) {r : Four} where
-  good_of_lem : (n : Numbers) → numbers_of mesh_name 0 count_mosts a ≡ n → r ≡ four_of n → r.good ≡ true → FourGood a r
-  unfolding four_of
-  good_of_lem (numbers ns) e x g =
-      record {
-        ns = ns;
-        says = e;
-        limits = limited mesh_name 0 count_mosts a ns e;
-        a = ap (λ (q : Four). q.a) x;
-        b = ap (λ (q : Four). q.b) x;
-      }
-  good_of_lem malformed e x g = absurd (true≢false (sym g ∙ ap (λ (q : Four). q.good) x))
+module _ (a : Line) {d : Option (List ℕ)} where
+  counts_of : (n : Numbers) {ns : List ℕ} → numbers_of mesh_name 0 count_mosts a ≡ n → d ≡ said n → d ≡ Some ns → Counts a ns
+  unfolding said
+  counts_of (numbers ms) {ns} e x g =
+      let q : ms ≡ ns = same_Some ms ns (sym x ∙ g) in
+      let s : numbers_of mesh_name 0 count_mosts a ≡ numbers ns = e ∙ ap numbers q in
+      record { says = s; limits = limited mesh_name 0 count_mosts a ns s }
+  counts_of malformed e x g = absurd (none-some _ (sym x ∙ g))
 
-  bad_of : (n : Numbers) → numbers_of mesh_name 0 count_mosts a ≡ n → r ≡ four_of n → r.good ≡ false → numbers_of mesh_name 0 count_mosts a ≡ malformed
-  unfolding four_of
-  bad_of (numbers ns) e x g = absurd (true≢false (sym (ap (λ (q : Four). q.good) x) ∙ g))
-  bad_of malformed e x g = e
+  none_of : (n : Numbers) → numbers_of mesh_name 0 count_mosts a ≡ n → d ≡ said n → d ≡ None → numbers_of mesh_name 0 count_mosts a ≡ malformed
+  unfolding said
+  none_of (numbers ms) e x g = absurd (none-some _ (sym g ∙ x))
+  none_of malformed e x g = e
 
-  module _ (e : r ≡ four_of (numbers_of mesh_name 0 count_mosts a)) where
-    pub four_good : r.good ≡ true → FourGood a r
-    four_good = good_of_lem (numbers_of mesh_name 0 count_mosts a) refl e
+  module _ (e : d ≡ said (numbers_of mesh_name 0 count_mosts a)) where
+    pub counts_good : {ns : List ℕ} → d ≡ Some ns → Counts a ns
+    counts_good = counts_of (numbers_of mesh_name 0 count_mosts a) refl e
 
-    four_bad : r.good ≡ false → numbers_of mesh_name 0 count_mosts a ≡ malformed
-    four_bad = bad_of (numbers_of mesh_name 0 count_mosts a) refl e
-
--- what is told of a line, by other names
-told : (f : ℕ → ℕ → ℤ → Read Claim) {a b c d : ℕ} {z t : ℤ} → c ≡ a → d ≡ b → t ≡ z → f a b z ≡ f c d t
-told f e g h = rw (e, g, h) refl
-
--- the counts are small
-pub counts_small : {a : Line} {r : Four} → FourGood a r → (r.a ≤ count_most) × (r.b ≤ count_most)
-counts_small g = (omega (arith, g.a, g.limits.most 0 (omega arith)), omega (arith, g.b, g.limits.most 1 (omega arith)))
+    counts_none : d ≡ None → numbers_of mesh_name 0 count_mosts a ≡ malformed
+    counts_none = none_of (numbers_of mesh_name 0 count_mosts a) refl e
 
 module _ {line : List ℕ} {p : ℕ} (l : LastCell line p) (h : length (parts tab_byte line) ≡ 4) where
   -- the last of them has a tab in front of it
@@ -102,20 +86,27 @@ module _ {line : List ℕ} {p : ℕ} (l : LastCell line p) (h : length (parts ta
       let q : view line p (length line - p) ≡ drop p line = take_all (length line - p) (drop p line) (rw length-drop (omega arith)) in
       rw q (four_cells (parts tab_byte line) front (drop p line) (l.behind last_later) h k f)
 
-  module _ {r : Four} (e : r ≡ four_of (numbers_of mesh_name 0 count_mosts front)) where
-    pub counts_bad : r.good ≡ false → MeshIs (parts tab_byte line) Missing
+  module _ {d : Option (List ℕ)} (e : d ≡ said (numbers_of mesh_name 0 count_mosts front)) where
+    pub counts_bad : d ≡ None → MeshIs (parts tab_byte line) None
     unfolding MeshIs need
-    counts_bad g k f = whole k f ∙ rw (four_bad front e g) refl
+    counts_bad g k f = whole k f ∙ rw (counts_none front e g) refl
 
-    module _ (g : r.good ≡ true) {s : Option ℤ} (q : s ≡ signed_in total_most (view line p (length line - p))) where
-      pub total_bad : s ≡ None → MeshIs (parts tab_byte line) Missing
+    module _ {ns : List ℕ} (g : d ≡ Some ns) {s : Option ℤ} (q : s ≡ signed_in total_most (view line p (length line - p))) where
+      -- the counts are small
+      pub counts_small : (get_or ns 0 0 ≤ count_most) × (get_or ns 1 0 ≤ count_most)
+      counts_small = let y = counts_good front e g in ((y.limits.most 0 (omega arith)).1, (y.limits.most 1 (omega arith)).1)
+
+      pub total_bad : s ≡ None → MeshIs (parts tab_byte line) None
       unfolding MeshIs need need_whole
-      total_bad x k f = whole k f ∙ rw ((four_good front e g).says, sym q ∙ x) refl
+      total_bad x k f = whole k f ∙ rw ((counts_good front e g).says, sym q ∙ x) refl
 
       -- t is the total z as the bits say it
-      pub mesh_counted : {z t : ℤ} → s ≡ Some z → t ≡ z → MeshIs (parts tab_byte line) (Counted r.a r.b t)
+      pub mesh_counted : {z t : ℤ} → s ≡ Some z → t ≡ z
+          → MeshIs (parts tab_byte line) (Some (record { places = get_or ns 0 0; polygons = get_or ns 1 0; total = t }))
       unfolding MeshIs need need_whole
       mesh_counted x u =
-          let y = four_good front e g in
-          let s = counts_small y in
-          record { places = s.0; polygons = s.1; says = λ k f. whole k f ∙ rw (y.says, sym q ∙ x) (told f y.a y.b u) }
+          record {
+            places = counts_small.0;
+            polygons = counts_small.1;
+            says = λ k f. whole k f ∙ rw ((counts_good front e g).says, sym q ∙ x, u) refl;
+          }

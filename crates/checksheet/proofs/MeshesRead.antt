@@ -1,4 +1,5 @@
 -- What is behind the heading, from the mesh line on: there is none, or its lists are read. Assumes nothing.
+use Rattle.std.specs.Prelude.{Option, Some, None, Ok, Err}
 use mathlib.Core.Path.{◌≡◌, refl, sym, ◌∙◌, subst}
 use mathlib.Core.Bool.{true, false}
 use mathlib.Core.List.{List, []}
@@ -16,10 +17,10 @@ use Rattle.rules.specs.Sheet.{heading_lines, line_at}
 use Rattle.rules.specs.CheckSheet.{count_most, row_words, no_mesh_yet, read_places, read_mesh}
 use Rattle.lines.specs.Scan.{place_of}
 use Rattle.sheet.specs.declared.heading.Heading.{Heading}
+use Rattle.sheet.specs.declared.refusal.SheetRefusal.TheVariants.{Malformed}
+use Rattle.sheet.specs.Refusals.{number_of, line_of, refused_as}
 use Rattle.sheet.specs.Reading.{sheet_of}
 use Rattle.checksheet.specs.declared.counts.MeshLine.{MeshLine}
-use Rattle.checksheet.specs.declared.counts.MeshLine.TheVariants.{Counted, Missing}
-use Rattle.checksheet.specs.declared.claim.ClaimRead.TheVariants.{Claimed, Unread}
 use Rattle.checksheet.specs.declared.progress.Progress.{Progress}
 use Rattle.checksheet.specs.Reading.{CountedAs, MeshIs, with_mesh, end_of, ListsReady, ListsRead}
 use Rattle.checksheet.specs.Claims.{MeshReady, claim_of, ClaimedAs, FoundAs, MeshRead}
@@ -44,13 +45,13 @@ pub rows_fit : (n : ℕ) {words : ℕ} → n ≤ count_most → words ≤ 12 →
 rows_fit n h w = mul-le-mul h w
 
 -- ---- the mesh line, which ends at e
-missing : (text : List ℕ) (x : Heading) {l : Line} → line_at (lines_of (drop x.at text)) 0 ≡ l → MeshIs l Missing → (vs ps ls : List ℕ)
-    → MeshRead text x (Unread 5) vs ps ls
-unfolding FoundAs MeshIs read_mesh
+missing : (text : List ℕ) (x : Heading) {l : Line} → line_at (lines_of (drop x.at text)) 0 ≡ l → MeshIs l None → (vs ps ls : List ℕ)
+    → MeshRead text x (Err (Malformed 5)) vs ps ls
+unfolding FoundAs MeshIs read_mesh refused_as number_of line_of
 missing text x e m vs ps ls = record { found = rw e (m (heading_lines + 1) _) }
 
 module _ (text : List ℕ) (x : Heading) {e : ℕ} (q : e ≡ x.at + place_of lf (drop x.at text)) where
-  pub mesh_open : length text ≤ e → (vs ps ls : List ℕ) → MeshRead text x (Unread 5) vs ps ls
+  pub mesh_open : length text ≤ e → (vs ps ls : List ℕ) → MeshRead text x (Err (Malformed 5)) vs ps ls
   mesh_open h = missing text x (line_none text x.at q h) (other_count [] (λ (z : 0 ≡ 4). absurd (omega arith)))
 
   module _ (h : e < length text) where
@@ -64,19 +65,19 @@ module _ (text : List ℕ) (x : Heading) {e : ℕ} (q : e ≡ x.at + place_of lf
     later : drop 1 (lines_of (drop x.at text)) ≡ lines_of (drop (e + 1) text)
     later = rw (line_here text x.at q h) refl
 
-    module _ {m : MeshLine} (is : MeshIs first m) where
-      pub mesh_missed : m ≡ Missing → (vs ps ls : List ℕ) → MeshRead text x (Unread 5) vs ps ls
+    module _ {o : Option MeshLine} (is : MeshIs first o) where
+      pub mesh_missed : o ≡ None → (vs ps ls : List ℕ) → MeshRead text x (Err (Malformed 5)) vs ps ls
       mesh_missed z = missing text x here (subst (MeshIs first) z is)
 
-      module _ {k n : ℕ} {z : ℤ} (counted : m ≡ Counted k n z) where
-        says : CountedAs first k n z
+      module _ {m : MeshLine} (counted : o ≡ Some m) where
+        says : CountedAs first m.places m.polygons m.total
         unfolding MeshIs
         says = subst (MeshIs first) counted is
 
-        pub lists_asked : {vs ps ls : List ℕ} {words : ℕ} → MeshReady text x vs ps ls → words ≡ row_words x.nvp → ListsReady text (e + 1) words k n vs ps ls
+        pub lists_asked : {vs ps ls : List ℕ} {words : ℕ} → MeshReady text x vs ps ls → words ≡ row_words x.nvp → ListsReady text (e + 1) words m.places m.polygons vs ps ls
         lists_asked {words = words} r w =
             let few : words ≤ 12 = omega (arith, words_few x.nvp) in
-            let rows = rows_fit n says.polygons few in
+            let rows = rows_fit m.polygons says.polygons few in
             record {
               inside = omega arith;
               short = r.short;
@@ -86,28 +87,27 @@ module _ (text : List ℕ) (x : Heading) {e : ℕ} (q : e ≡ x.at + place_of lf
               links = omega (arith, rows, r.links);
             }
 
-        module _ {words : ℕ} {p : Progress} {vs ps ls : List ℕ} (w : words ≡ row_words x.nvp) (lists : ListsRead text (e + 1) words k n p vs ps ls) where
-          counts : read_mesh (lines_of (drop x.at text)) (sheet_of x) ≡ read_places 6 k n (lines_of (drop (e + 1) text)) (no_mesh_yet (sheet_of x) z)
+        module _ {words : ℕ} {p : Progress} {vs ps ls : List ℕ} (w : words ≡ row_words x.nvp) (lists : ListsRead text (e + 1) words m.places m.polygons p vs ps ls) where
+          counts : read_mesh (lines_of (drop x.at text)) (sheet_of x) ≡ read_places 6 m.places m.polygons (lines_of (drop (e + 1) text)) (no_mesh_yet (sheet_of x) m.total)
           unfolding read_mesh
           counts =
               rw (here, later)
               (says.says (heading_lines + 1) (λ k n z. read_places (heading_lines + 2) k n (lines_of (drop (e + 1) text)) (no_mesh_yet (sheet_of x) z)))
 
-          rest : read_places 6 k n (lines_of (drop (e + 1) text)) (no_mesh_yet (sheet_of x) z) ≡ end_of p (claim_of x k n z vs ps ls)
+          rest : read_places 6 m.places m.polygons (lines_of (drop (e + 1) text)) (no_mesh_yet (sheet_of x) m.total) ≡ end_of p (claim_of x m.places m.polygons m.total vs ps ls)
           unfolding with_mesh no_mesh_yet sheet_of claim_of
-          rest = rw (← w) (lists.same (no_mesh_yet (sheet_of x) z) (sym w))
+          rest = rw (← w) (lists.same (no_mesh_yet (sheet_of x) m.total) (sym w))
 
-          -- y is the total as the bits say it
-          pub mesh_claimed : {y : ℤ} → y ≡ z → p.good ≡ true → MeshRead text x (Claimed k n y) vs ps ls
+          pub mesh_claimed : p.good ≡ true → MeshRead text x (Ok m) vs ps ls
           unfolding FoundAs
-          mesh_claimed {y} t g =
-              let a : ClaimedAs text x k n z vs ps ls = record {
+          mesh_claimed g =
+              let a : ClaimedAs text x m.places m.polygons m.total vs ps ls = record {
                 places = says.places;
                 polygons = says.polygons;
                 same = counts ∙ rest ∙ end_good p _ g;
               } in
-              subst (λ (t : ℤ). MeshRead text x (Claimed k n t) vs ps ls) (sym t) record { found = a }
+              record { found = a }
 
-          pub mesh_unread : p.good ≡ false → MeshRead text x (Unread p.line) vs ps ls
-          unfolding FoundAs
+          pub mesh_unread : p.good ≡ false → MeshRead text x (Err (Malformed p.line)) vs ps ls
+          unfolding FoundAs refused_as number_of line_of
           mesh_unread g = record { found = counts ∙ rest ∙ end_bad p _ g }

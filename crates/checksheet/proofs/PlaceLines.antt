@@ -25,15 +25,12 @@ use Rattle.checksheet.proofs.Resting.{rest_good, rest_bad, rest_stopped, stopped
 abbrev pub place_mosts : List ℕ
 place_mosts = number_most ∷ number_most ∷ number_most ∷ []
 
-abbrev pub PlaceGood : List ℕ → ℕ → LineRead → Type 0
+abbrev pub PlaceGood : List ℕ → ℕ → LineRead 3 → Type 0
 PlaceGood text at r = Good text at v_name 0 place_mosts r
 
-pub place_most : {text : List ℕ} {at : ℕ} {r : LineRead} → PlaceGood text at r → (r.a ≤ number_most) × (r.b ≤ number_most) × (r.c ≤ number_most)
-place_most g = (
-  omega (arith, g.a, g.limits.most 0 (omega arith)),
-  omega (arith, g.b, g.limits.most 1 (omega arith)),
-  omega (arith, g.c, g.limits.most 2 (omega arith)),
-)
+pub place_most : {text : List ℕ} {at : ℕ} {r : LineRead 3} → PlaceGood text at r
+    → (get_or r.numbers 0 0 ≤ number_most) × (get_or r.numbers 1 0 ≤ number_most) × (get_or r.numbers 2 0 ≤ number_most)
+place_most g = ((g.limits.most 0 (omega arith)).1, (g.limits.most 1 (omega arith)).1, (g.limits.most 2 (omega arith)).1)
 
 three_of : (ns : List ℕ) → length ns ≡ 3 → get_or ns 0 0 ∷ get_or ns 1 0 ∷ get_or ns 2 0 ∷ [] ≡ ns
 three_of [] h = absurd (omega arith)
@@ -60,27 +57,28 @@ module _ {text : List ℕ} {p : Progress} {i : ℕ} {vs : List ℕ} (ready : Pla
     same = λ due n c. at_place due n _ ∙ need_bad p.line _ e ∙ rest_stopped text p _;
   })
 
-  module _ {r : LineRead} (g : PlaceGood text p.at r) where
-    put : set (set (set vs (i * vertex_stride) r.a) (i * vertex_stride + 1) r.b) (i * vertex_stride + 2) r.c ≡ splice vs (i * vertex_stride) g.ns
+  module _ {r : LineRead 3} (g : PlaceGood text p.at r) where
+    put : set (set (set vs (i * vertex_stride) (get_or r.numbers 0 0)) (i * vertex_stride + 1) (get_or r.numbers 1 0)) (i * vertex_stride + 2) (get_or r.numbers 2 0)
+        ≡ splice vs (i * vertex_stride) r.numbers
     unfolding set_each
     put =
         let k = i * vertex_stride in
-        stored_each vs k r.a (r.b ∷ r.c ∷ []) ∙ ap (splice vs k) (rw (g.a, g.b, g.c) (three_of g.ns g.limits.long))
+        stored_each vs k (get_or r.numbers 0 0) (get_or r.numbers 1 0 ∷ get_or r.numbers 2 0 ∷ []) ∙ ap (splice vs k) (three_of r.numbers g.limits.long)
 
-    put_place : PlaceRead text p (record { good = true; line = p.line + 1; at = r.next }) i vs (splice vs (i * vertex_stride) g.ns)
+    put_place : PlaceRead text p (record { good = true; line = p.line + 1; at = r.next }) i vs (splice vs (i * vertex_stride) r.numbers)
     unfolding rest_by with_place with_mesh
     put_place =
         let w = ready.within in
         let k = i * vertex_stride in
-        let more = take_splice_end vs k ((i + 1) * vertex_stride) g.ns (omega (arith, g.limits.long)) (omega (arith, ready.room)) in
+        let more = take_splice_end vs k ((i + 1) * vertex_stride) r.numbers (omega (arith, g.limits.long)) (omega (arith, ready.room)) in
         record {
           within = record { inside = g.within; short = w.short; small = omega (arith, w.small, g.further) };
-          long = length_splice vs k g.ns;
+          long = length_splice vs k r.numbers;
           same = λ due n c. at_place due n _ ∙ need_good p.line _ g.says ∙ rw (g.rest, more) refl;
         }
 
     pub place_put : PlaceRead text p (record { good = true; line = p.line + 1; at = r.next }) i vs
-        (set (set (set vs (i * vertex_stride) r.a) (i * vertex_stride + 1) r.b) (i * vertex_stride + 2) r.c)
+        (set (set (set vs (i * vertex_stride) (get_or r.numbers 0 0)) (i * vertex_stride + 1) (get_or r.numbers 1 0)) (i * vertex_stride + 2) (get_or r.numbers 2 0))
     place_put = subst (PlaceRead text p (record { good = true; line = p.line + 1; at = r.next }) i vs) (sym put) put_place
 
 -- ---- the loop: i vertices are read, and what is left from p on comes to what the whole comes to

@@ -1,5 +1,5 @@
 -- What is printed: the verdict by its two numbers, a claim's text, and the text of the whole for each way that the reading ends. Assumes nothing.
-use Rattle.std.specs.Prelude.{Result, ⊤}
+use Rattle.std.specs.Prelude.{Result, Ok, Err, ⊤}
 use mathlib.Core.Path.{◌≡◌, refl, sym, ap, ◌∙◌, subst}
 use mathlib.Core.List.{List, [], ◌∷◌, ◌++◌}
 use mathlib.Core.Logic.{⊎_elim, ◌≢◌}
@@ -17,13 +17,13 @@ use Rattle.rules.specs.Checker.{Claim, verdict, verdict_number, verdict_second}
 use Rattle.rules.specs.declared.Objection.{Objection}
 use Rattle.checker.specs.Asked.{claim_in}
 use Rattle.sheet.specs.declared.heading.Heading.{Heading}
-use Rattle.sheet.specs.declared.heading.HeadingRead.{HeadingRead}
-use Rattle.sheet.specs.declared.heading.HeadingRead.TheVariants.{Headed, Refused}
+use Rattle.sheet.specs.declared.refusal.SheetRefusal.{SheetRefusal}
+use Rattle.sheet.specs.declared.refusal.SheetRefusal.TheVariants.{TooLong}
+use Rattle.sheet.specs.Refusals.{number_of, line_of, refused_as}
 use Rattle.sheet.specs.Reading.{sheet_of, headed_as, BehindIs, Behind}
 use Rattle.sheet.specs.Room.{out_most, refused_room}
 use Rattle.sheet.specs.Texts.{long_bytes, short_bytes, text_read, bad_text}
-use Rattle.checksheet.specs.declared.claim.ClaimRead.{ClaimRead}
-use Rattle.checksheet.specs.declared.claim.ClaimRead.TheVariants.{Claimed, Unread}
+use Rattle.checksheet.specs.declared.counts.MeshLine.{MeshLine}
 use Rattle.checksheet.specs.Reading.{with_mesh}
 use Rattle.checksheet.specs.Claims.{claim_of, ClaimedAs, FoundAs, MeshRead}
 use Rattle.checksheet.specs.Answer.{numbers_text, claim_text, answer_text, lines_text, LinesReady}
@@ -73,34 +73,34 @@ pub lines_short : (text : List ℕ) (x : Heading) → length (lines_text text x)
 unfolding lines_text
 lines_short text x = read_short (read_mesh (lines_of (drop x.at text)) (sheet_of x))
 
-module _ (text : List ℕ) (x : Heading) {r : ClaimRead} {vs ps ls : List ℕ} (m : MeshRead text x r vs ps ls) where
-  pub unread_text : {line : ℕ} → r ≡ Unread line → refused_text 22 line ≡ lines_text text x
-  unfolding FoundAs lines_text read_text
-  unread_text e = sym (ap (read_text claim_text) (subst (λ (q : ClaimRead). FoundAs text x q vs ps ls) e m.found))
+module _ (text : List ℕ) (x : Heading) {r : Result MeshLine SheetRefusal} {vs ps ls : List ℕ} (m : MeshRead text x r vs ps ls) where
+  pub unread_text : {e : SheetRefusal} → r ≡ Err e → refused_text (number_of e) (line_of e) ≡ lines_text text x
+  unfolding FoundAs lines_text read_text refused_as
+  unread_text e = sym (ap (read_text claim_text) (subst (λ (q : Result MeshLine SheetRefusal). FoundAs text x q vs ps ls) e m.found))
 
-  module _ {k n : ℕ} {z : ℤ} (e : r ≡ Claimed k n z) where
-    pub claimed : ClaimedAs text x k n z vs ps ls
+  module _ {s : MeshLine} (e : r ≡ Ok s) where
+    pub claimed : ClaimedAs text x s.places s.polygons s.total vs ps ls
     unfolding FoundAs
-    claimed = subst (λ (q : ClaimRead). FoundAs text x q vs ps ls) e m.found
+    claimed = subst (λ (q : Result MeshLine SheetRefusal). FoundAs text x q vs ps ls) e m.found
 
     -- y is the total as the bits say it
-    pub claimed_text : {rows : ℕ} {y : ℤ} → y ≡ z → rows ≡ n * row_words x.nvp
-        → answer_text x y (take (k * vertex_stride) vs) (take rows ps) (take rows ls) ≡ lines_text text x
+    pub claimed_text : {rows : ℕ} {y : ℤ} → y ≡ s.total → rows ≡ s.polygons * row_words x.nvp
+        → answer_text x y (take (s.places * vertex_stride) vs) (take rows ps) (take rows ls) ≡ lines_text text x
     unfolding lines_text read_text answer_text claim_of
     claimed_text t w = rw (t, w) (sym (ap (read_text claim_text) claimed.same))
 
 -- ---- the whole
 module _ (t : List ℕ) where
-  pub long_text : bytes_most < length t → check_text t ≡ refused_text 23 0
-  unfolding check_text
+  pub long_text : bytes_most < length t → check_text t ≡ refused_text (number_of TooLong) (line_of TooLong)
+  unfolding check_text number_of line_of
   long_text h = bad_text read_claim (λ c. verdict_text (verdict c)) t (long_bytes read_claim t h)
 
-  module _ (h : length t ≤ bytes_most) {r : HeadingRead} (e : read_heading (lines_of t) ≡ headed_as r) where
-    pub refused_text_lem : {n k : ℕ} → r ≡ Refused n k → check_text t ≡ refused_text n k
-    unfolding check_text read_claim headed_as and_then
+  module _ (h : length t ≤ bytes_most) {r : Result Heading SheetRefusal} (e : read_heading (lines_of t) ≡ headed_as r) where
+    pub refused_text_lem : {z : SheetRefusal} → r ≡ Err z → check_text t ≡ refused_text (number_of z) (line_of z)
+    unfolding check_text read_claim headed_as and_then refused_as
     refused_text_lem q = bad_text read_claim (λ c. verdict_text (verdict c)) t (short_bytes read_claim t h ∙ rw (e ∙ ap headed_as q) refl)
 
-    module _ {x : Heading} (q : r ≡ Headed x) (b : Behind t r) where
+    module _ {x : Heading} (q : r ≡ Ok x) (b : Behind t r) where
       pub lines_ready : {out : List ℕ} → length out ≡ out_most → LinesReady t x out
       unfolding BehindIs
       lines_ready o = record { inside = (subst (Behind t) q b).within; short = h; room = omega arith }

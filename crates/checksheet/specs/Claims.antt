@@ -1,14 +1,15 @@
 -- What a printed mesh is found to claim. Definitions only.
-use Rattle.std.specs.Prelude.{◌≡◌, List, ℕ, ◌*◌, ◌≤◌, ℤ, length, take, drop}
+use Rattle.std.specs.Prelude.{◌≡◌, List, ℕ, ◌*◌, ◌≤◌, ℤ, length, take, drop, Result, Ok, Err}
 use Rattle.rules.specs.Lines.{lines_of}
 use Rattle.rules.specs.Checks.{vertex_stride}
-use Rattle.rules.specs.Sheet.{bytes_most, taken, bad}
+use Rattle.rules.specs.Sheet.{bytes_most, taken}
 use Rattle.rules.specs.CheckSheet.{count_most, row_words, no_mesh_yet, read_mesh}
 use Rattle.rules.specs.Checker.{Claim}
 use Rattle.sheet.specs.declared.heading.Heading.{Heading}
 use Rattle.sheet.specs.Reading.{sheet_of}
-use Rattle.checksheet.specs.declared.claim.ClaimRead.{ClaimRead}
-use Rattle.checksheet.specs.declared.claim.ClaimRead.TheVariants.{Claimed, Unread}
+use Rattle.sheet.specs.declared.refusal.SheetRefusal.{SheetRefusal}
+use Rattle.sheet.specs.Refusals.{refused_as}
+use Rattle.checksheet.specs.declared.counts.MeshLine.{MeshLine}
 use Rattle.checksheet.specs.Reading.{with_mesh}
 
 -- the lines behind the heading can be read: there is room for all that a mesh line may speak of
@@ -31,9 +32,9 @@ pub record ClaimedAs (text : List ℕ) (x : Heading) (k n : ℕ) (z : ℤ) (vs p
   pub same : read_mesh (lines_of (drop x.at text)) (sheet_of x) ≡ taken (claim_of x k n z vs ps ls)
 
 -- what they are found to be, and that in a record, which tells what it is of
-unfoldable pub FoundAs : List ℕ → Heading → ClaimRead → List ℕ → List ℕ → List ℕ → Type 0
-FoundAs text x (Claimed k n z) vs ps ls = ClaimedAs text x k n z vs ps ls
-FoundAs text x (Unread line) vs ps ls = read_mesh (lines_of (drop x.at text)) (sheet_of x) ≡ bad 22 line
+unfoldable pub FoundAs : List ℕ → Heading → Result MeshLine SheetRefusal → List ℕ → List ℕ → List ℕ → Type 0
+FoundAs text x (Ok m) vs ps ls = ClaimedAs text x m.places m.polygons m.total vs ps ls
+FoundAs text x (Err e) vs ps ls = read_mesh (lines_of (drop x.at text)) (sheet_of x) ≡ refused_as e
 
-pub record MeshRead (text : List ℕ) (x : Heading) (r : ClaimRead) (vs ps ls : List ℕ) : Type 0 where
+pub record MeshRead (text : List ℕ) (x : Heading) (r : Result MeshLine SheetRefusal) (vs ps ls : List ℕ) : Type 0 where
   pub found : FoundAs text x r vs ps ls

@@ -1,5 +1,5 @@
 -- How far a printed mesh has been read, and what the rest of it comes to. Definitions only.
-use Rattle.std.specs.Prelude.{◌≡◌, true, false, cond, List, [], ◌++◌, ℕ, suc, ◌+◌, ◌*◌, ◌≤◌, ◌<◌, ℤ, length, take, drop, get_or}
+use Rattle.std.specs.Prelude.{◌≡◌, true, false, cond, List, [], ◌++◌, ℕ, suc, ◌+◌, ◌*◌, ◌≤◌, ◌<◌, ℤ, length, take, drop, get_or, Option, Some, None}
 use Rattle.mem.specs.Slice.{splice}
 use Rattle.rules.specs.Lines.{Line, lines_of, numbers, malformed}
 use Rattle.rules.specs.Exits.{padded}
@@ -8,7 +8,6 @@ use Rattle.rules.specs.Sheet.{bytes_most, number_most, Read, taken, bad, line_at
 use Rattle.rules.specs.CheckSheet.{count_most, row_words, need_mesh, corner_numbers, link_numbers, read_polygons, read_places}
 use Rattle.rules.specs.Checker.{Claim}
 use Rattle.checksheet.specs.declared.counts.MeshLine.{MeshLine}
-use Rattle.checksheet.specs.declared.counts.MeshLine.TheVariants.{Counted, Missing}
 use Rattle.checksheet.specs.declared.progress.Progress.{Progress}
 use Rattle.checksheet.specs.declared.rows.Corners.{Corners}
 
@@ -20,9 +19,9 @@ pub record CountedAs (l : Line) (k n : ℕ) (z : ℤ) : Type 0 where
   pub polygons : n ≤ count_most
   pub says : (line : ℕ) (f : ℕ → ℕ → ℤ → Read Claim) → need_mesh line l f ≡ f k n z
 
-unfoldable pub MeshIs : Line → MeshLine → Type 0
-MeshIs l (Counted k n z) = CountedAs l k n z
-MeshIs l Missing = (line : ℕ) (f : ℕ → ℕ → ℤ → Read Claim) → need_mesh line l f ≡ bad 22 line
+unfoldable pub MeshIs : Line → Option MeshLine → Type 0
+MeshIs l (Some m) = CountedAs l m.places m.polygons m.total
+MeshIs l None = (line : ℕ) (f : ℕ → ℕ → ℤ → Read Claim) → need_mesh line l f ≡ bad 22 line
 
 -- ---- the claim, and how far it has been read
 

@@ -7,16 +7,10 @@ use crate::counts::{MeshLine, mesh_cells};
 use crate::lists::read_lists;
 use lines::scan::find;
 use sheet::heading::Heading;
+use sheet::refusal::SheetRefusal;
 
 // The mesh line.
 const MESH_LINE: u64 = 5;
-
-// How many vertices and polygons stand in the lists, and the claimed total; or the line at which the reading ended.
-#[derive(Clone, Copy)]
-pub enum ClaimRead {
-    Claimed(usize, usize, i64),
-    Unread(u64),
-}
 
 // How many words a polygon's corners have.
 pub fn row_words(nvp: u32) -> usize
@@ -28,31 +22,36 @@ pub fn row_words(nvp: u32) -> usize
     12
 }
 
-// What is behind the heading x. The lists have room for 8,192 vertices and polygons.
+// What is behind the heading x, as its mesh line counts it. The lists have room for 8,192 vertices and polygons.
 pub fn read_mesh(
     text: &[u8],
     x: Heading,
     vertices: &mut [u16],
     polygons: &mut [u16],
     links: &mut [u32],
-) -> ClaimRead
+) -> Result<MeshLine, SheetRefusal>
     requires { MeshReady text.now x vertices.old polygons.old links.old }
     ensures { MeshRead text.now x result vertices.new polygons.new links.new }
 {
     let from = x.at;
     let e = find(text, from, b'\n');
     if e >= text.len() {
-        return ClaimRead::Unread(MESH_LINE);
+        return Err(SheetRefusal::Malformed(MESH_LINE));
     }
-    match mesh_cells(&text[from..e]) {
-        MeshLine::Missing => ClaimRead::Unread(MESH_LINE),
-        MeshLine::Counted(k, n, total) => {
-            let words = row_words(x.nvp);
-            let p = read_lists(text, e + 1, words, k, n, vertices, polygons, links);
-            if p.good {
-                return ClaimRead::Claimed(k, n, total);
-            }
-            ClaimRead::Unread(p.line)
-        }
+    let mesh = mesh_cells(&text[from..e]).ok_or(SheetRefusal::Malformed(MESH_LINE))?;
+    let words = row_words(x.nvp);
+    let p = read_lists(
+        text,
+        e + 1,
+        words,
+        mesh.places,
+        mesh.polygons,
+        vertices,
+        polygons,
+        links,
+    );
+    if p.good {
+        return Ok(mesh);
     }
+    Err(SheetRefusal::Malformed(p.line))
 }

@@ -12,26 +12,27 @@ const COUNT_MOST: u64 = 8192;
 // The most that the claimed total may be, above zero or below.
 const TOTAL_MOST: u64 = 9223372036854775807;
 
-// The counts of vertices and polygons, and the claimed total; or no such line.
+// What a mesh line says: how many vertices and polygons there are, and the claimed total.
 #[derive(Clone, Copy)]
-pub enum MeshLine {
-    Counted(usize, usize, i64),
-    Missing,
+pub struct MeshLine {
+    pub places: usize,
+    pub polygons: usize,
+    pub total: i64,
 }
 
-// What a mesh line says: four cells, the last of which has a sign.
-pub fn mesh_cells(line: &[u8]) -> MeshLine
+// The mesh line of these bytes: four cells, the last of which has a sign.
+pub fn mesh_cells(line: &[u8]) -> Option<MeshLine>
     ensures { MeshIs (parts tab_byte line.now) result }
 {
     let last = last_cell(line);
     if count_cells(line) == 4 {
-        let counts = read_numbers(&line[..last - 1], b"mesh", 0, &[COUNT_MOST, COUNT_MOST]);
-        if counts.good {
-            return match read_signed(&line[last..], TOTAL_MOST) {
-                Some(z) => MeshLine::Counted(counts.a as usize, counts.b as usize, z),
-                None => MeshLine::Missing,
-            };
-        }
+        let counts = read_numbers(&line[..last - 1], b"mesh", 0, &[COUNT_MOST; 2])?;
+        let total = read_signed(&line[last..], TOTAL_MOST)?;
+        return Some(MeshLine {
+            places: counts[0] as usize,
+            polygons: counts[1] as usize,
+            total,
+        });
     }
-    MeshLine::Missing
+    None
 }

@@ -14,20 +14,20 @@ fn place_line(text: &[u8], p: Progress, i: usize, vertices: &mut [u16]) -> Progr
     requires { PlaceReady text.now p i vertices.old }
     ensures { PlaceRead text.now p result i vertices.old vertices.new }
 {
-    let mosts = [NUMBER_MOST; 3];
-    let place = read_line(text, p.at, b"v", 0, &mosts);
-    if place.good {
-        let k = i * VERTEX_STRIDE;
-        vertices[k] = place.a as u16;
-        vertices[k + 1] = place.b as u16;
-        vertices[k + 2] = place.c as u16;
-        return Progress {
-            good: true,
-            line: p.line + 1,
-            at: place.next,
-        };
+    match read_line(text, p.at, b"v", 0, &[NUMBER_MOST; 3]) {
+        None => stopped(p),
+        Some(place) => {
+            let k = i * VERTEX_STRIDE;
+            vertices[k] = place.numbers[0] as u16;
+            vertices[k + 1] = place.numbers[1] as u16;
+            vertices[k + 2] = place.numbers[2] as u16;
+            Progress {
+                good: true,
+                line: p.line + 1,
+                at: place.next,
+            }
+        }
     }
-    stopped(p)
 }
 
 // The k lines from `from` on, up to the first bad one.

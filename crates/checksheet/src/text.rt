@@ -5,10 +5,11 @@ ghost use Rattle.lines.specs.Print.{Printed};
 ghost use Rattle.checksheet.specs.Answer.{LinesReady, lines_text};
 
 use crate::answer::put_answer;
-use crate::claim::{ClaimRead, read_mesh, row_words};
+use crate::claim::{read_mesh, row_words};
 use rules::VERTEX_STRIDE;
-use sheet::heading::{Heading, HeadingRead, read_heading};
-use sheet::rows::put_refused;
+use sheet::heading::{Heading, read_heading};
+use sheet::refusal::SheetRefusal;
+use sheet::rows::put_sheet_refused;
 
 // What is behind the heading x: its lists, and the verdict on them.
 fn check_lines(text: &[u8], x: Heading, out: &mut [u8]) -> usize
@@ -19,13 +20,13 @@ fn check_lines(text: &[u8], x: Heading, out: &mut [u8]) -> usize
     let mut polygons = [0u16; 98304];
     let mut links = [0u32; 98304];
     match read_mesh(text, x, &mut vertices, &mut polygons, &mut links) {
-        ClaimRead::Unread(line) => put_refused(out, 22, line),
-        ClaimRead::Claimed(k, n, total) => {
-            let rows = n * row_words(x.nvp);
+        Err(refusal) => put_sheet_refused(out, refusal),
+        Ok(mesh) => {
+            let rows = mesh.polygons * row_words(x.nvp);
             put_answer(
                 x,
-                total,
-                &vertices[..k * VERTEX_STRIDE],
+                mesh.total,
+                &vertices[..mesh.places * VERTEX_STRIDE],
                 &polygons[..rows],
                 &links[..rows],
                 out,
@@ -41,10 +42,10 @@ pub fn check_sheet(text: &[u8], out: &mut [u8; 65536]) -> usize
     ensures counted { (result ≤ length out.new) × (result ≡ length (take result out.new)) }
 {
     if text.len() > 65536 {
-        return put_refused(out, 23, 0);
+        return put_sheet_refused(out, SheetRefusal::TooLong);
     }
     match read_heading(text) {
-        HeadingRead::Refused(n, k) => put_refused(out, n, k),
-        HeadingRead::Headed(x) => check_lines(text, x, out),
+        Err(refusal) => put_sheet_refused(out, refusal),
+        Ok(x) => check_lines(text, x, out),
     }
 }

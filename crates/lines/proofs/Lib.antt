@@ -13,3 +13,5 @@ pub mod Places
 pub mod Signs
 -- a cell as a whole number
 pub mod Wholes
+-- the loop over values that are printed
+pub mod CellLoop

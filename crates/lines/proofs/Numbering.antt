@@ -12,12 +12,11 @@ use lib.Dec.{eqb}
 use lib.ListN.{length, take, drop, get_or, set, replicate, length-append, length-set, length-replicate, drop_of_length-le}
 use lib.Seq.{append_snoc}
 use borrow.Author.Tests.{eqb-true, eqb-false}
-use Rattle.mem.specs.Slice.{view, splice, splice_nil, splice_eq, write_step}
-use Rattle.mem.specs.Zeros.{with_zeros, drop_replicate, zeros_at}
+use Rattle.mem.specs.Slice.{view, splice, splice_nil, splice_whole, write_step}
 use Rattle.rules.specs.Lines.{tab_byte, is_same_text, parts, Line, decimal_in, Numbers, numbers, malformed, with_number, numbers_in, numbers_of}
 use Rattle.lines.specs.Scan.{place_of, parts_some}
-use Rattle.lines.specs.Read.{are_numbers, good_in, good_of, RowRead, four_of}
-use Rattle.lines.specs.Taken.{row_good}
+use Rattle.lines.specs.Read.{are_numbers, good_in, good_of, RowRead, said}
+use Rattle.lines.specs.Taken.{row_good, row_bad}
 use Rattle.lines.proofs.Scanning.{drop_next}
 use Rattle.lines.proofs.Counting.{cells_from, cells_more, cells_end, first_cell}
 
@@ -163,21 +162,15 @@ module _ {line name : List ℕ} {least : ℕ} {mosts v values : List ℕ} {at i 
       | false ↦ λ e. too_many (eqb-false at (length line) e)
     ]) refl
 
--- ---- at most four numbers, over zeros
-over_zeros : (ns : List ℕ) (n : ℕ) → length ns ≤ n → splice (replicate n 0) 0 ns ≡ with_zeros n ns
-unfolding with_zeros
-over_zeros ns n h =
-    let z : 0 + length ns ≡ length ns = omega arith in
-    splice_eq (replicate n 0) 0 ns (simp length-replicate (omega arith)) ∙ rw (z, drop_replicate {A = ℕ} (length ns) n 0) refl
-
-four_of_lem : (w ns : List ℕ) → w ≡ with_zeros 4 ns → record { good = true; a = get_or w 0 0; b = get_or w 1 0; c = get_or w 2 0; d = get_or w 3 0 } ≡ four_of (numbers ns)
-unfolding four_of
-four_of_lem w ns p = rw (p, zeros_at 4 ns 0, zeros_at 4 ns 1, zeros_at 4 ns 2, zeros_at 4 ns 3) refl
-
-module _ {name : List ℕ} {least : ℕ} {mosts : List ℕ} {l : Line} {r : Bool} {w : List ℕ} (x : RowRead name least mosts l r (replicate 4 0) w) where
-  pub four_good : r ≡ true → length mosts ≤ 4
-      → record { good = true; a = get_or w 0 0; b = get_or w 1 0; c = get_or w 2 0; d = get_or w 3 0 } ≡ four_of (numbers_of name least mosts l)
-  four_good e h =
+-- ---- the words of a good line are its numbers
+module _ {name : List ℕ} {least : ℕ} {mosts : List ℕ} {l : Line} {r : Bool} {v w : List ℕ} (x : RowRead name least mosts l r v w) where
+  pub row_said : r ≡ true → length mosts ≡ length v → Some w ≡ said (numbers_of name least mosts l)
+  unfolding said
+  row_said e h =
       let g = row_good x e in
-      let p : w ≡ with_zeros 4 g.ns = g.put ∙ over_zeros g.ns 4 (omega (arith, g.limits.long)) in
-      four_of_lem w g.ns p ∙ ap four_of (sym g.says)
+      let q : w ≡ g.ns = g.put ∙ splice_whole v g.ns (g.limits.long ∙ h) in
+      ap Some q ∙ sym (ap said g.says)
+
+  pub row_unsaid : r ≡ false → None ≡ said (numbers_of name least mosts l)
+  unfolding said
+  row_unsaid e = rw (row_bad x e) refl

@@ -1,5 +1,4 @@
--- The loops of a search for a byte and of a comparison: as long as the search finds nothing, and as long as the texts agree, the answer of the whole is that of
--- what is left. Assumes nothing.
+-- The loop of a search for a byte: as long as it finds nothing, the answer of the whole is that of what is left. And a comparison byte by byte. Assumes nothing.
 use mathlib.Core.Path.{◌≡◌, refl, ap, ◌∙◌}
 use mathlib.Core.Bool.{true, false, ◌&&◌, and-false}
 use mathlib.Core.List.{List, [], ◌∷◌}
@@ -8,6 +7,8 @@ use Prim.Native.Nat.{ℕ, ◌+◌, ◌≤◌, ◌<◌}
 use native.Mathlib.Numerals.{add-one}
 use native.Mathlib.Omega.{arith}
 use lib.Dec.{eqb}
+use lib.Pointwise.{pointwise}
+use Rattle.std.proofs.Common.{nat_eq}
 use lib.ListN.{length, drop, get_or, drop_of_length-le}
 use lib.Seq.{drop-cons}
 use borrow.Author.Tests.{eq-eqb, ne_eqb}
@@ -41,33 +42,10 @@ module _ {b : ℕ} {text : List ℕ} {from i : ℕ} (s : Seeking b text from i) 
   unfolding place_of
   seek_end h = let e : place_of b (drop i text) ≡ 0 = ap (place_of b) (drop_of_length-le text {i = i} h) in (omega (arith, s.same), s.within)
 
--- ---- whether two texts are the same
-pub record Alike (a b : List ℕ) (i : ℕ) : Type 0 where
-  pub same : is_same_text a b ≡ is_same_text (drop i a) (drop i b)
-  pub long : length a ≡ length b
-
-pub alike_begin : (a b : List ℕ) → length a ≡ length b → Alike a b 0
-alike_begin a b h = record { same = refl; long = h }
-
--- texts of different lengths aren't
-pub unlike_long : (a b : List ℕ) → length a ≢ length b → is_same_text a b ≡ false
-unfolding is_same_text
-unlike_long [] [] h = absurd (h refl)
-unlike_long [] (d ∷ ds) h = refl
-unlike_long (c ∷ cs) [] h = refl
-unlike_long (c ∷ cs) (d ∷ ds) h = rw (unlike_long cs ds (λ e. h (ap Prim.Native.Nat.suc e))) (and-false (eqb c d))
-
-module _ {a b : List ℕ} {i : ℕ} (s : Alike a b i) (h : i < length a) where
-  turn : is_same_text a b ≡ (eqb (get_or a i 0) (get_or b i 0) && is_same_text (drop (i + 1) a) (drop (i + 1) b))
-  unfolding is_same_text
-  turn = s.same ∙ rw (drop_next a i h, drop_next b i (omega (arith, s.long)))
-
-  pub alike_next : get_or a i 0 ≡ get_or b i 0 → Alike a b (i + 1)
-  alike_next e = record { same = turn ∙ rw (eq-eqb (get_or a i 0) (get_or b i 0) e) refl; long = s.long }
-
-  pub unlike_here : get_or a i 0 ≢ get_or b i 0 → is_same_text a b ≡ false
-  unlike_here e = turn ∙ rw (ne_eqb (get_or a i 0) (get_or b i 0) e) refl
-
-pub alike_end : {a b : List ℕ} {i : ℕ} → Alike a b i → length a ≤ i → is_same_text a b ≡ true
-unfolding is_same_text
-alike_end {a} {b} {i} s h = s.same ∙ rw (drop_of_length-le a {i = i} h, drop_of_length-le b {i = i} (omega (arith, s.long))) refl
+-- ---- whether two texts are the same, byte by byte
+pub same_pointwise : (a b : List ℕ) → pointwise nat_eq a b ≡ is_same_text a b
+unfolding pointwise is_same_text
+same_pointwise [] [] = refl
+same_pointwise [] (d ∷ ds) = refl
+same_pointwise (c ∷ cs) [] = refl
+same_pointwise (c ∷ cs) (d ∷ ds) = rw (same_pointwise cs ds) refl

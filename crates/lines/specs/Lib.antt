@@ -8,3 +8,5 @@ pub mod Taken
 pub mod Print
 pub mod Printing
 pub mod Pieces
+-- what the exits of `?` return
+pub mod Exits

@@ -1,8 +1,7 @@
 -- What the readers of lines answer, case by case. Definitions only.
-use Rattle.std.specs.Prelude.{◌≡◌, Bool, true, false, List, [], ◌∷◌, ◌++◌, ℕ, ◌+◌, ◌-◌, ◌≤◌, ◌<◌, length, take, drop, get_or, Some, None}
+use Rattle.std.specs.Prelude.{◌≡◌, Bool, true, false, List, [], ◌∷◌, ◌++◌, ℕ, ◌+◌, ◌-◌, ◌≤◌, ◌<◌, length, take, drop, get_or, Option, Some, None}
 use Rattle.mem.specs.Slice.{splice}
 use Rattle.rules.specs.Lines.{tab_byte, lf, is_same_text, parts, Line, lines_of, decimal_in, Numbers, numbers, malformed, numbers_of}
-use Rattle.lines.specs.declared.numbers.Four.{Four}
 use Rattle.lines.specs.declared.line.LineRead.{LineRead}
 use Rattle.lines.specs.Scan.{place_of}
 
@@ -41,25 +40,25 @@ pub record LastCell (line : List ℕ) (p : ℕ) : Type 0 where
   pub alone : p ≡ 0 → parts tab_byte line ≡ line ∷ []
   pub behind : 0 < p → parts tab_byte line ≡ parts tab_byte (take (p - 1) line) ++ (drop p line ∷ [])
 
--- ---- a line of at most four numbers
+-- ---- a line of numbers, and where it ends
 
--- the most numbers a line may have
-abbrev pub most_numbers : ℕ
-most_numbers = 4
-
--- 0 where there is no number, and everywhere if the line is malformed
-unfoldable pub four_of : Numbers → Four
-four_of (numbers ns) = record { good = true; a = get_or ns 0 0; b = get_or ns 1 0; c = get_or ns 2 0; d = get_or ns 3 0 }
-four_of malformed = record { good = false; a = 0; b = 0; c = 0; d = 0 }
+-- what a line says: its numbers, or none if it is malformed
+unfoldable pub said : Numbers → Option (List ℕ)
+said (numbers ns) = Some ns
+said malformed = None
 
 -- the place behind the LF that ends the line at p
 unfoldable pub line_end : List ℕ → ℕ → ℕ
 line_end text p = p + place_of lf (drop p text) + 1
 
+-- these numbers, and this place behind them
+abbrev pub reads : {N : ℕ} → List ℕ → ℕ → LineRead N
+reads ns e = record { numbers = ns; next = e }
+
 -- a line that is read at p: its numbers and the place behind it. Nothing is read of a malformed line
-unfoldable pub line_read : List ℕ → ℕ → Numbers → LineRead
-line_read text p (numbers ns) = record { good = true; next = line_end text p; a = get_or ns 0 0; b = get_or ns 1 0; c = get_or ns 2 0; d = get_or ns 3 0 }
-line_read text p malformed = record { good = false; next = p; a = 0; b = 0; c = 0; d = 0 }
+unfoldable pub line_read : {N : ℕ} → List ℕ → ℕ → Numbers → Option (LineRead N)
+line_read text p (numbers ns) = Some (reads ns (line_end text p))
+line_read text p malformed = None
 
 -- the numbers of the line at p; a line that is missing, or that no LF ends, has none
 unfoldable pub numbers_at : List ℕ → ℕ → List ℕ → ℕ → List ℕ → Numbers

@@ -3,7 +3,8 @@
 -- `numbers_most`: its numbers keep their limits; `row_good`, `row_bad`: all of it, from the answer of `read_row`; `good_read`, `bad_read`: from that of
 -- `read_line`.
 use Rattle.std.specs.Prelude.{◌≡◌, Bool, true, false, ◌&&◌, cond, ℕ, zero, suc, ◌+◌, ◌≤◌, ◌<◌, leb, length, drop, get_or, Option, Some, None}
-use Rattle.std.proofs.Math.Path.{refl, ap}
+use Rattle.std.proofs.Math.Path.{refl, ap, subst}
+use Rattle.std.proofs.lemmas.Option.{none-some, same_Some}
 use Rattle.std.proofs.Common.{sym, ◌∙◌, true≢false, ⊎_elim, arith, drop_of_length-le, leb-true}
 use mathlib.Core.List.{List, [], ◌∷◌}
 use Rattle.std.proofs.Math.ListN.{length-drop}
@@ -13,7 +14,7 @@ use Rattle.mem.specs.Cases.{lt_or_le}
 use Rattle.rules.specs.Lines.{tab_byte, lf, is_empty, is_same_text, parts, Line, whole_lines, lines_of, is_decimal, value_from, decimal_in, Numbers, numbers, malformed, with_number, numbers_in, numbers_of}
 use Rattle.lines.specs.declared.line.LineRead.{LineRead}
 use Rattle.lines.specs.Scan.{place_of, part_next, part_last, parts_some}
-use Rattle.lines.specs.Read.{are_numbers, good_in, good_of, RowRead, line_end, line_read, numbers_at}
+use Rattle.lines.specs.Read.{are_numbers, good_in, good_of, RowRead, line_end, reads, line_read, numbers_at}
 
 -- ---- the line at a place of a text
 
@@ -211,49 +212,46 @@ module _ {name : List ℕ} {least : ℕ} {mosts : List ℕ} {l : Line} {r : Bool
   pub row_bad : r ≡ false → numbers_of name least mosts l ≡ malformed
   row_bad = none_of (numbers_of name least mosts l) refl x.good
 
--- a line that was good: its numbers, what is left of the text behind it, and how the answer tells
-pub record Good (text : List ℕ) (p : ℕ) (name : List ℕ) (least : ℕ) (mosts : List ℕ) (r : LineRead) : Type 0 where
-  pub ns : List ℕ
-  pub says : numbers_at text p name least mosts ≡ numbers ns
-  pub limits : Limited least mosts ns
+-- a line that was good: its numbers, and what is left of the text behind it
+pub record Good (text : List ℕ) (p : ℕ) (name : List ℕ) (least : ℕ) (mosts : List ℕ) {N : ℕ} (r : LineRead N) : Type 0 where
+  pub says : numbers_at text p name least mosts ≡ numbers r.numbers
+  pub limits : Limited least mosts r.numbers
   pub rest : drop 1 (lines_of (drop p text)) ≡ lines_of (drop r.next text)
   pub ends : r.next ≡ line_end text p
   pub within : r.next ≤ length text
   pub further : p < r.next
-  pub a : r.a ≡ get_or ns 0 0
-  pub b : r.b ≡ get_or ns 1 0
-  pub c : r.c ≡ get_or ns 2 0
-  pub d : r.d ≡ get_or ns 3 0
 
-module _ (text : List ℕ) (p : ℕ) (name : List ℕ) (least : ℕ) (mosts : List ℕ) {r : LineRead} where
-  good_of_lem : (n : Numbers) → numbers_at text p name least mosts ≡ n → r ≡ line_read text p n → r.good ≡ true → Good text p name least mosts r
-  unfolding line_read
-  good_of_lem (numbers ns) e x g =
-      let t = taken text p name least mosts e in
-      let q : r.next ≡ line_end text p = ap (λ (l : LineRead). l.next) x in
+-- what the answer of `read_line` tells
+module _ (text : List ℕ) (p : ℕ) (name : List ℕ) (least : ℕ) (mosts : List ℕ) {N : ℕ} where
+  good_at : (ns : List ℕ) (e : ℕ) → numbers_at text p name least mosts ≡ numbers ns → e ≡ line_end text p
+      → Good text p name least mosts (reads {N = N} ns e)
+  good_at ns e q x =
+      let t = taken text p name least mosts q in
       record {
-        ns = ns;
-        says = e;
+        says = q;
         limits = limited name least mosts t.line ns t.says;
-        rest = rw (q, t.first) refl;
-        ends = q;
+        rest = rw (x, t.first) refl;
+        ends = x;
         within = omega (arith, t.within);
         further = omega (arith, t.further);
-        a = ap (λ (l : LineRead). l.a) x;
-        b = ap (λ (l : LineRead). l.b) x;
-        c = ap (λ (l : LineRead). l.c) x;
-        d = ap (λ (l : LineRead). l.d) x;
       }
-  good_of_lem malformed e x g = absurd (true≢false (sym g ∙ ap (λ (l : LineRead). l.good) x))
 
-  bad_of : (n : Numbers) → numbers_at text p name least mosts ≡ n → r ≡ line_read text p n → r.good ≡ false → numbers_at text p name least mosts ≡ malformed
+  good_of_lem : (n : Numbers) {d : Option (LineRead N)} {r : LineRead N} → numbers_at text p name least mosts ≡ n → d ≡ line_read text p n → d ≡ Some r
+      → Good text p name least mosts r
   unfolding line_read
-  bad_of (numbers ns) e x g = absurd (true≢false (sym (ap (λ (l : LineRead). l.good) x) ∙ g))
+  good_of_lem (numbers ns) e x g =
+      subst (λ (l : LineRead N). Good text p name least mosts l) (same_Some (reads ns (line_end text p)) _ (sym x ∙ g)) (good_at ns (line_end text p) e refl)
+  good_of_lem malformed e x g = absurd (none-some _ (sym x ∙ g))
+
+  bad_of : (n : Numbers) {d : Option (LineRead N)} → numbers_at text p name least mosts ≡ n → d ≡ line_read text p n → d ≡ None
+      → numbers_at text p name least mosts ≡ malformed
+  unfolding line_read
+  bad_of (numbers ns) e x g = absurd (none-some _ (sym g ∙ x))
   bad_of malformed e x g = e
 
-  module _ (e : r ≡ line_read text p (numbers_at text p name least mosts)) where
-    pub good_read : r.good ≡ true → Good text p name least mosts r
+  module _ {d : Option (LineRead N)} (e : d ≡ line_read text p (numbers_at text p name least mosts)) where
+    pub good_read : {r : LineRead N} → d ≡ Some r → Good text p name least mosts r
     good_read = good_of_lem (numbers_at text p name least mosts) refl e
 
-    pub bad_read : r.good ≡ false → numbers_at text p name least mosts ≡ malformed
+    pub bad_read : d ≡ None → numbers_at text p name least mosts ≡ malformed
     bad_read = bad_of (numbers_at text p name least mosts) refl e

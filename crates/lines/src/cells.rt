@@ -1,4 +1,5 @@
 // Cells of numbers printed, each with its tab in front.
+ghost use Rattle.std.specs.Prelude.{◌≡◌, ℕ};
 ghost use Rattle.mem.specs.Packed.{packed};
 ghost use Rattle.rules.specs.Lines.{cell, signed_cell};
 ghost use Rattle.lines.specs.Print.{Room, Printed};
@@ -23,26 +24,39 @@ pub fn put_signed_cell(out: &mut [u8], at: usize, z: i64) -> usize
     put_signed(out, at + 1, z)
 }
 
-// Numbers of 16 bits.
-pub fn put_cells16(out: &mut [u8], at: usize, ns: &[u16]) -> usize
-    requires { Room out.old (packed cell ns.now) at }
-    ensures { Printed (packed cell ns.now) out.old out.new at result }
-{
-    let mut to = at;
-    for i in 0..ns.len() {
-        to = put_cell(out, to, ns[i] as u64);
-    }
-    to
+// A number of some width.
+pub trait Number: Copy {
+    // The number that a value is.
+    ghost says: { Self → ℕ };
+
+    fn word(self) -> u64
+        ensures { result ≡ says self };
 }
 
-// Numbers of 32 bits.
-pub fn put_cells32(out: &mut [u8], at: usize, ns: &[u32]) -> usize
-    requires { Room out.old (packed cell ns.now) at }
-    ensures { Printed (packed cell ns.now) out.old out.new at result }
+impl Number for u16 {
+    ghost says = { λ n. n };
+
+    fn word(self) -> u64 {
+        u64::from(self)
+    }
+}
+
+impl Number for u32 {
+    ghost says = { λ n. n };
+
+    fn word(self) -> u64 {
+        u64::from(self)
+    }
+}
+
+// Numbers of one width.
+pub fn put_cells<T: Number>(out: &mut [u8], at: usize, ns: &[T]) -> usize
+    requires { Room out.old (packed (λ n. cell (T.says n)) ns.now) at }
+    ensures { Printed (packed (λ n. cell (T.says n)) ns.now) out.old out.new at result }
 {
     let mut to = at;
-    for i in 0..ns.len() {
-        to = put_cell(out, to, ns[i] as u64);
+    for n in ns {
+        to = put_cell(out, to, n.word());
     }
     to
 }

@@ -1,32 +1,10 @@
 // A line of numbers.
 ghost use Rattle.std.specs.Prelude.{◌≡◌, ◌≤◌, length};
-ghost use Rattle.rules.specs.Lines.{tab_byte, parts, malformed, numbers_of};
-ghost use Rattle.lines.specs.Read.{most_numbers, four_of, RowRead};
+ghost use Rattle.rules.specs.Lines.{tab_byte, parts, numbers_of};
+ghost use Rattle.lines.specs.Read.{said, RowRead};
 
 use crate::decimal::read_decimal;
 use crate::scan::{find, is_same_text};
-
-// The numbers of a line, at most four: 0 where there is none, and everywhere if the line is malformed.
-#[derive(Clone, Copy)]
-pub struct Four {
-    pub good: bool,
-    pub a: u64,
-    pub b: u64,
-    pub c: u64,
-    pub d: u64,
-}
-
-fn no_numbers() -> Four
-    ensures { result ≡ four_of malformed }
-{
-    Four {
-        good: false,
-        a: 0,
-        b: 0,
-        c: 0,
-        d: 0,
-    }
-}
 
 // Whether a line has this name and then a decimal for each of `mosts`, from `least` to that limit. Its numbers, up to the
 // first bad cell, go to the beginning of `values`.
@@ -58,19 +36,17 @@ pub fn read_row(line: &[u8], name: &[u8], least: u64, mosts: &[u64], values: &mu
 }
 
 // The numbers of a line that has this name and then a decimal for each of `mosts`, from `least` to that limit.
-pub fn read_numbers(line: &[u8], name: &[u8], least: u64, mosts: &[u64]) -> Four
-    requires { length mosts.now ≤ most_numbers }
-    ensures { result ≡ four_of (numbers_of name.now least mosts.now (parts tab_byte line.now)) }
+pub fn read_numbers<const N: usize>(
+    line: &[u8],
+    name: &[u8],
+    least: u64,
+    mosts: &[u64; N],
+) -> Option<[u64; N]>
+    ensures { result ≡ said (numbers_of name.now least mosts.now (parts tab_byte line.now)) }
 {
-    let mut values = [0u64; 4];
+    let mut values = [0u64; N];
     if read_row(line, name, least, mosts, &mut values) {
-        return Four {
-            good: true,
-            a: values[0],
-            b: values[1],
-            c: values[2],
-            d: values[3],
-        };
+        return Some(values);
     }
-    no_numbers()
+    None
 }

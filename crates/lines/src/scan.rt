@@ -22,13 +22,5 @@ pub fn find(text: &[u8], from: usize, b: u8) -> usize
 pub fn is_same_text(a: &[u8], b: &[u8]) -> bool
     ensures { result ≡ is_same_text a.now b.now }
 {
-    if a.len() != b.len() {
-        return false;
-    }
-    for i in 0..a.len() {
-        if a[i] != b[i] {
-            return false;
-        }
-    }
-    true
+    a == b
 }

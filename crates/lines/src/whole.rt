@@ -11,14 +11,10 @@ pub fn read_signed(cell: &[u8], most: u64) -> Option<i64>
 {
     if cell.len() > 0 {
         if cell[0] == b'-' {
-            return match read_decimal(&cell[1..], 1, most) {
-                None => None,
-                Some(n) => Some(-(n as i64)),
-            };
+            let n = read_decimal(&cell[1..], 1, most)?;
+            return Some(-(n as i64));
         }
     }
-    match read_decimal(cell, 0, most) {
-        None => None,
-        Some(n) => Some(n as i64),
-    }
+    let n = read_decimal(cell, 0, most)?;
+    Some(n as i64)
 }

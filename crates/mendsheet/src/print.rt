@@ -6,7 +6,7 @@ ghost use Rattle.sheet.specs.Reading.{sheet_of, with_lists};
 ghost use Rattle.mendsheet.specs.Print.{contours_of, PointsReady, ContoursReady, SheetReady};
 
 use sheet::heading::Heading;
-use sheet::rows::{put_line16, put_line32, put_top};
+use sheet::rows::{put_line, put_top};
 
 // The heading lines, as they were read: unit, cell, nvp and grid.
 fn put_heading(out: &mut [u8], x: Heading) -> usize
@@ -15,9 +15,9 @@ fn put_heading(out: &mut [u8], x: Heading) -> usize
 {
     let a = put_top(out, x.inches, x.size, x.height);
     let limit = [x.nvp];
-    let b = put_line32(out, a, b"nvp", &limit);
+    let b = put_line(out, a, b"nvp", &limit);
     let grid = [x.w, x.h, x.border];
-    put_line16(out, b, b"grid", &grid)
+    put_line(out, b, b"grid", &grid)
 }
 
 // The `v` lines of the vertices from `first` up to `end`.
@@ -28,7 +28,7 @@ fn put_points(out: &mut [u8], at: usize, numbers: &[u16], first: usize, end: usi
     let mut to = at;
     for k in first..end {
         let from = k * 4;
-        to = put_line16(out, to, b"v", &numbers[from..from + 4]);
+        to = put_line(out, to, b"v", &numbers[from..from + 4]);
     }
     to
 }
@@ -51,7 +51,7 @@ fn put_contours(
     for c in 0..lengths.len() {
         let words = [regions[c] as u32, codes[c] as u32, lengths[c]];
         let end = first + lengths[c] as usize;
-        to = put_line32(out, to, b"contour", &words);
+        to = put_line(out, to, b"contour", &words);
         to = put_points(out, to, numbers, first, end);
         first = end;
     }

@@ -4,8 +4,8 @@ ghost use Rattle.rules.specs.MendSheet.{mend_text, lost_text};
 ghost use Rattle.lines.specs.Print.{Printed};
 
 use crate::answer::{put_losses, put_mended};
-use sheet::read::{SheetRead, read_sheet};
-use sheet::rows::put_refused;
+use sheet::read::read_sheet;
+use sheet::rows::put_sheet_refused;
 
 // The sheet with its contours mended: its bytes in, and the text at the beginning of `out`. Any bytes may be handed in. The
 // answer is the text's length.
@@ -18,13 +18,13 @@ pub fn mend_sheet(text: &[u8], out: &mut [u8; 65536]) -> usize
     let mut codes = [0u8; 32];
     let mut numbers = [0u16; 384];
     match read_sheet(text, &mut lengths, &mut regions, &mut codes, &mut numbers) {
-        SheetRead::Bad(n, k) => put_refused(out, n, k),
-        SheetRead::Taken(x, c, v) => put_mended(
-            x,
-            &mut lengths[..c],
-            &regions[..c],
-            &codes[..c],
-            &mut numbers[..v * 4],
+        Err(refusal) => put_sheet_refused(out, refusal),
+        Ok(sheet) => put_mended(
+            sheet.heading,
+            &mut lengths[..sheet.contours],
+            &regions[..sheet.contours],
+            &codes[..sheet.contours],
+            &mut numbers[..sheet.vertices * 4],
             out,
         ),
     }
@@ -40,10 +40,15 @@ pub fn lost_sheet(text: &[u8], out: &mut [u8; 65536]) -> usize
     let mut codes = [0u8; 32];
     let mut numbers = [0u16; 384];
     match read_sheet(text, &mut lengths, &mut regions, &mut codes, &mut numbers) {
-        SheetRead::Bad(n, k) => put_refused(out, n, k),
-        SheetRead::Taken(_, c, v) => {
+        Err(refusal) => put_sheet_refused(out, refusal),
+        Ok(sheet) => {
             let mut copy = lengths;
-            put_losses(&lengths[..c], &mut copy[..c], &mut numbers[..v * 4], out)
+            put_losses(
+                &lengths[..sheet.contours],
+                &mut copy[..sheet.contours],
+                &mut numbers[..sheet.vertices * 4],
+                out,
+            )
         }
     }
 }

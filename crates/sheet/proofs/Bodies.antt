@@ -1,5 +1,6 @@
 -- The lines behind the heading, one after the other: a line that is bad is the refusal, and behind a good one the rest comes to what the whole comes to. The
 -- lengths so far add up to the vertices that are read and that are due. Assumes nothing.
+use Rattle.std.specs.Prelude.{Result, Ok, Err}
 use mathlib.Core.Path.{◌≡◌, refl, sym, ap, ◌∙◌, subst}
 use mathlib.Core.Bool.{Bool, true, false, cond}
 use mathlib.Core.List.{List, [], ◌∷◌, ◌++◌}
@@ -9,18 +10,21 @@ use native.Mathlib.Numerals.{add-one}
 use native.Mathlib.Omega.{arith}
 use lib.ListN.{length, take, drop, get_or, set, length-append, length-set, get_or-append}
 use lib.Seq.{length-take-le, drop-cons, get_or_at, take-suc-set}
-use borrow.Author.Tests.{eq-eqb, ne_eqb}
 use Rattle.mem.specs.Slice.{splice, length_splice, take_splice_end}
 use Rattle.mem.specs.Loops.{run, over, over_cong}
 use Rattle.rules.specs.Lines.{Line, lines_of, Numbers, numbers, malformed}
 use Rattle.rules.specs.Job.{job_stride, sum_over, count_all}
-use Rattle.rules.specs.Sheet.{number_most, code_most, heading_lines, contour_name, v_name, Sheet, Read, bad, need, too_many, with_contour, with_vertex, contour_numbers, vertex_numbers, read_body}
+use Rattle.rules.specs.Sheet.{number_most, code_most, heading_lines, contour_name, v_name, Sheet, Read, taken, bad, need, too_many, with_contour, with_vertex, contour_numbers, vertex_numbers, read_body}
 use Rattle.lines.specs.Read.{line_end, numbers_at}
 use Rattle.lines.specs.Taken.{line_some, line_missing, limited}
 use Rattle.lines.specs.Taken as lines
 use Rattle.sheet.specs.declared.body.Progress.{Progress}
 use Rattle.sheet.specs.Needs.{need_bad, need_good}
-use Rattle.sheet.specs.Reading.{with_lists, so_far, rest_of, end_of, stopped_by, contour_at, vertex_line_at, is_over, after_contour, put_contour, after_vertex}
+use Rattle.sheet.specs.Reading.{with_lists, so_far, rest_of, rest_as, end_as, contour_at, vertex_line_at, is_over, past_contour, after_contour, put_contour, past_vertex, after_vertex}
+use Rattle.sheet.specs.Reading.{Moved, Further, Counted, CountedAs}
+use Rattle.sheet.specs.declared.refusal.SheetRefusal.{SheetRefusal}
+use Rattle.sheet.specs.declared.refusal.SheetRefusal.TheVariants.{Malformed, TooMany}
+use Rattle.sheet.specs.Refusals.{number_of, line_of, refused_as}
 use Rattle.sheet.specs.Reading.{put_vertex, ContourReady, ContourRead, VertexReady, VertexRead, Standing, LineReady, Stepped, BodyReady, BodyRead}
 use Rattle.sheet.proofs.BodyLines.{not_over}
 
@@ -56,10 +60,6 @@ contour_on k ls s ms = elim (too_many s.job (get_or ms 2 0)) [
   | false ↦ read_body (k + 1) (get_or ms 2 0) ls (with_contour ms s)
 ]
 
-rest_stopped : (text : List ℕ) (p : Progress) (s : Sheet) (n : ℕ) → 0 < n → bad n p.line ≡ rest_of text (stopped_by n p) s
-unfolding rest_of stopped_by
-rest_stopped text p s n h = rw (ne_eqb n 0 (λ (z : n ≡ 0). omega arith), rest_of) refl
-
 -- one more in a list
 take_more : (l : List ℕ) (k x : ℕ) → k < length l → take (k + 1) (set l k x) ≡ take k l ++ (x ∷ [])
 take_more l k x h = rw add-one (take-suc-set l k x h)
@@ -68,36 +68,13 @@ take_more l k x h = rw add-one (take-suc-set l k x h)
 rest_cong : (k d : ℕ) {ks ls : List Line} {s t : Sheet} → ks ≡ ls → s ≡ t → read_body k d ks s ≡ read_body k d ls t
 rest_cong k d {ks} {ls} {s} {t} e f = ap (λ (l : List Line). read_body k d l s) e ∙ ap (read_body k d ls) f
 
--- the place behind a good line
-abbrev past_contour : List ℕ → Progress → List ℕ → Progress
-past_contour text p ms = record {
-  refusal = 0;
-  line = p.line + 1;
-  at = line_end text p.at;
-  due = get_or ms 2 0;
-  contours = p.contours + 1;
-  vertices = p.vertices;
-}
-
-abbrev past_vertex : List ℕ → Progress → Progress
-past_vertex text p = record {
-  refusal = 0;
-  line = p.line + 1;
-  at = line_end text p.at;
-  due = p.due - 1;
-  contours = p.contours;
-  vertices = p.vertices + 1;
-}
-
 module _ {text : List ℕ} {p : Progress} {ls rs cs ns : List ℕ} (ready : LineReady text p ls rs cs ns) where
   abbrev here : List Line
   here = lines_of (drop p.at text)
 
   rest_is : (s : Sheet) → rest_of text p s ≡ read_body p.line p.due (get_or here 0 [] ∷ drop 1 here) s
   unfolding rest_of
-  rest_is s =
-      rw (eq-eqb p.refusal 0 ready.going, rest_of)
-      (ap (λ (l : List Line). read_body p.line p.due l s) (drop-cons here 0 [] (line_some text p.at ready.more)))
+  rest_is s = ap (λ (l : List Line). read_body p.line p.due l s) (drop-cons here 0 [] (line_some text p.at ready.more))
 
   -- a contour line, and a vertex line
   at_contour : p.due ≡ 0 → (s : Sheet) → rest_of text p s ≡ need p.line (contour_at text p) (contour_on p.line (drop 1 here) s)
@@ -112,23 +89,9 @@ module _ {text : List ℕ} {p : Progress} {ls rs cs ns : List ℕ} (ready : Line
       rest_is s ∙ ap (λ (d : ℕ). read_body p.line d (get_or here 0 [] ∷ drop 1 here) s) e
 
   -- the reading ends at p
-  stop : (n : ℕ) → 0 < n → ((s : Sheet) → rest_of text p (so_far s p ls rs cs ns) ≡ bad n p.line) → Stepped text p (stopped_by n p) ls rs cs ns ls rs cs ns
-  unfolding stopped_by so_far
-  stop n h e =
-      let t = ready.standing in
-      let w = t.within in
-      record {
-        standing = record {
-          within = record { inside = w.inside; short = w.short; small = w.small; few = w.few; room = w.room };
-          lengths = t.lengths;
-          regions = t.regions;
-          codes = t.codes;
-          numbers = t.numbers;
-          declared = t.declared;
-        };
-        further = λ (z : n ≡ 0). absurd (omega arith);
-        same = λ s. e s ∙ rest_stopped text p (so_far s p ls rs cs ns) n h;
-      }
+  stop : (e : SheetRefusal) → ((s : Sheet) → rest_of text p (so_far s p ls rs cs ns) ≡ refused_as e) → Stepped text p (Err e) ls rs cs ns ls rs cs ns
+  unfolding Moved rest_as
+  stop e h = record { moved = Prim.tt; same = h }
 
   -- ---- a contour line
   module _ (due : p.due ≡ 0) where
@@ -141,21 +104,22 @@ module _ {text : List ℕ} {p : Progress} {ls rs cs ns : List ℕ} (ready : Line
         let b : sum_over (λ k. k) (take p.contours ls) ≡ p.vertices = omega (arith, t.declared) in
         rw (a, b) refl
 
-    stop_at_contour : contour_at text p ≡ malformed → Stepped text p (stopped_by 22 p) ls rs cs ns ls rs cs ns
-    stop_at_contour e = stop 22 (omega arith) (λ s. at_contour due (so_far s p ls rs cs ns) ∙ need_bad p.line _ e)
+    stop_at_contour : contour_at text p ≡ malformed → Stepped text p (Err (Malformed p.line)) ls rs cs ns ls rs cs ns
+    unfolding refused_as number_of line_of
+    stop_at_contour e = stop (Malformed p.line) (λ s. at_contour due (so_far s p ls rs cs ns) ∙ need_bad p.line _ e)
 
     module _ {ms : List ℕ} (e : contour_at text p ≡ numbers ms) where
       contour_on_lem : (s : Sheet) → rest_of text p (so_far s p ls rs cs ns) ≡ contour_on p.line (drop 1 here) (so_far s p ls rs cs ns) ms
       contour_on_lem s = at_contour due (so_far s p ls rs cs ns) ∙ need_good p.line (contour_on p.line (drop 1 here) (so_far s p ls rs cs ns)) e
 
-      stop_too_many : is_over p (get_or ms 2 0) ≡ true → Stepped text p (stopped_by 24 p) ls rs cs ns ls rs cs ns
-      unfolding contour_on
-      stop_too_many o = stop 24 (omega arith) (λ s. contour_on_lem s ∙ rw (over_is s (get_or ms 2 0) ∙ o, contour_on) refl)
+      stop_too_many : is_over p (get_or ms 2 0) ≡ true → Stepped text p (Err (TooMany p.line)) ls rs cs ns ls rs cs ns
+      unfolding contour_on refused_as number_of line_of
+      stop_too_many o = stop (TooMany p.line) (λ s. contour_on_lem s ∙ rw (over_is s (get_or ms 2 0) ∙ o, contour_on) refl)
 
       past_contour_lem : is_over p (get_or ms 2 0) ≡ false
-          → Stepped text p (past_contour text p ms) ls rs cs ns
+          → Stepped text p (Ok (past_contour text p ms)) ls rs cs ns
           (set ls p.contours (get_or ms 2 0)) (set rs p.contours (get_or ms 0 0)) (set cs p.contours (get_or ms 1 0)) ns
-      unfolding contour_at contour_on rest_of with_contour so_far with_lists
+      unfolding contour_at contour_on rest_of with_contour so_far with_lists Moved rest_as
       past_contour_lem o =
           let t = ready.standing in
           let l = lines.taken text p.at contour_name 0 (number_most ∷ code_most ∷ number_most ∷ []) e in
@@ -164,7 +128,7 @@ module _ {text : List ℕ} {p : Progress} {ls rs cs ns : List ℕ} (ready : Line
           let region = take_more rs p.contours (get_or ms 0 0) (omega (arith, f.0, t.regions)) in
           let code = take_more cs p.contours (get_or ms 1 0) (omega (arith, f.0, t.codes)) in
           record {
-            standing = record {
+            moved = record { standing = record {
               within = record {
                 inside = l.within;
                 short = t.within.short;
@@ -178,7 +142,7 @@ module _ {text : List ℕ} {p : Progress} {ls rs cs ns : List ℕ} (ready : Line
               numbers = t.numbers;
               declared = rw more (omega (arith, sum_snoc (take p.contours ls) (get_or ms 2 0), t.declared));
             };
-            further = λ z. l.further;
+            further = l.further; };
             same = λ s.
                 contour_on_lem s
                 ∙ rw (over_is s (get_or ms 2 0) ∙ o, contour_on)
@@ -190,7 +154,7 @@ module _ {text : List ℕ} {p : Progress} {ls rs cs ns : List ℕ} (ready : Line
     unfolding after_contour put_contour
     by_contour malformed e = stop_at_contour e
     by_contour (numbers ms) e = (elim (is_over p (get_or ms 2 0)) as (λ (t : Bool). is_over p (get_or ms 2 0) ≡ t
-        → Stepped text p (cond t (stopped_by 24 p) (past_contour text p ms)) ls rs cs ns
+        → Stepped text p (cond t (Err (TooMany p.line)) (Ok (past_contour text p ms))) ls rs cs ns
         (cond t ls (set ls p.contours (get_or ms 2 0))) (cond t rs (set rs p.contours (get_or ms 0 0))) (cond t cs (set cs p.contours (get_or ms 1 0))) ns) [
           | true ↦ λ o. stop_too_many e o
           | false ↦ λ o. past_contour_lem e o
@@ -198,12 +162,13 @@ module _ {text : List ℕ} {p : Progress} {ls rs cs ns : List ℕ} (ready : Line
 
   -- ---- a vertex line
   module _ (due : 0 < p.due) where
-    stop_at_vertex : vertex_line_at text p ≡ malformed → Stepped text p (stopped_by 22 p) ls rs cs ns ls rs cs ns
-    stop_at_vertex e = stop 22 (omega arith) (λ s. at_vertex due (so_far s p ls rs cs ns) ∙ need_bad p.line _ e)
+    stop_at_vertex : vertex_line_at text p ≡ malformed → Stepped text p (Err (Malformed p.line)) ls rs cs ns ls rs cs ns
+    unfolding refused_as number_of line_of
+    stop_at_vertex e = stop (Malformed p.line) (λ s. at_vertex due (so_far s p ls rs cs ns) ∙ need_bad p.line _ e)
 
     past_vertex_lem : {ms : List ℕ} → vertex_line_at text p ≡ numbers ms
-        → Stepped text p (past_vertex text p) ls rs cs ns ls rs cs (splice ns (p.vertices * job_stride) ms)
-    unfolding vertex_line_at rest_of with_vertex so_far with_lists
+        → Stepped text p (Ok (past_vertex text p)) ls rs cs ns ls rs cs (splice ns (p.vertices * job_stride) ms)
+    unfolding vertex_line_at rest_of with_vertex so_far with_lists Moved rest_as
     past_vertex_lem {ms} e =
         let t = ready.standing in
         let mosts : List ℕ = number_most ∷ number_most ∷ number_most ∷ number_most ∷ [] in
@@ -211,7 +176,7 @@ module _ {text : List ℕ} {p : Progress} {ls rs cs ns : List ℕ} (ready : Line
         let four = (limited v_name 0 mosts l.line ms l.says).long in
         let more = take_splice_end ns (p.vertices * job_stride) ((p.vertices + 1) * job_stride) ms (omega arith) (omega (arith, t.within.room, t.numbers)) in
         record {
-          standing = record {
+          moved = record { standing = record {
             within = record {
               inside = l.within;
               short = t.within.short;
@@ -225,7 +190,7 @@ module _ {text : List ℕ} {p : Progress} {ls rs cs ns : List ℕ} (ready : Line
             numbers = length_splice ns (p.vertices * job_stride) ms ∙ t.numbers;
             declared = omega (arith, t.declared);
           };
-          further = λ z. l.further;
+          further = l.further; };
           same = λ s.
               at_vertex due (so_far s p ls rs cs ns)
               ∙ need_good p.line _ e
@@ -244,17 +209,17 @@ module _ {text : List ℕ} {p : Progress} {ls rs cs ns : List ℕ} (ready : Line
   pub vertex_ready : 0 < p.due → VertexReady text p ns
   vertex_ready due = record { within = ready.standing.within; due = due; numbers = ready.standing.numbers }
 
-  pub contour_stepped : {q : Progress} {ls' rs' cs' : List ℕ} → p.due ≡ 0 → ContourRead text p q ls rs cs ls' rs' cs' → Stepped text p q ls rs cs ns ls' rs' cs' ns
+  pub contour_stepped : {q : Result Progress SheetRefusal} {ls' rs' cs' : List ℕ} → p.due ≡ 0 → ContourRead text p q ls rs cs ls' rs' cs' → Stepped text p q ls rs cs ns ls' rs' cs' ns
   contour_stepped {q} {ls'} {rs'} {cs'} due r =
-      subst (λ (x : Progress). Stepped text p x ls rs cs ns ls' rs' cs' ns) (sym r.next)
+      subst (λ (x : Result Progress SheetRefusal). Stepped text p x ls rs cs ns ls' rs' cs' ns) (sym r.next)
       (subst (λ (x : List ℕ). Stepped text p (after_contour text p (contour_at text p)) ls rs cs ns x rs' cs' ns) (sym r.lengths)
       (subst (λ (x : List ℕ). Stepped text p (after_contour text p (contour_at text p)) ls rs cs ns (put_contour 2 p (contour_at text p) ls) x cs' ns) (sym r.regions)
       (subst (λ (x : List ℕ). Stepped text p (after_contour text p (contour_at text p)) ls rs cs ns (put_contour 2 p (contour_at text p) ls) (put_contour 0 p (contour_at text p) rs) x ns)
       (sym r.codes) (by_contour due (contour_at text p) refl))))
 
-  pub vertex_stepped : {q : Progress} {ns' : List ℕ} → 0 < p.due → VertexRead text p q ns ns' → Stepped text p q ls rs cs ns ls rs cs ns'
+  pub vertex_stepped : {q : Result Progress SheetRefusal} {ns' : List ℕ} → 0 < p.due → VertexRead text p q ns ns' → Stepped text p q ls rs cs ns ls rs cs ns'
   vertex_stepped {q} {ns'} due r =
-      subst (λ (x : Progress). Stepped text p x ls rs cs ns ls rs cs ns') (sym r.next)
+      subst (λ (x : Result Progress SheetRefusal). Stepped text p x ls rs cs ns ls rs cs ns') (sym r.next)
       (subst (λ (x : List ℕ). Stepped text p (after_vertex text p (vertex_line_at text p)) ls rs cs ns ls rs cs x) (sym r.numbers)
       (by_vertex due (vertex_line_at text p) refl))
 
@@ -263,11 +228,10 @@ module _ {text : List ℕ} {p : Progress} {ls rs cs ns : List ℕ} (ready : Line
 -- the loop: what the whole comes to is what is left from p on
 pub record Going (text : List ℕ) (from : ℕ) (p : Progress) (ls rs cs ns : List ℕ) : Type 0 where
   pub standing : Standing text p ls rs cs ns
-  pub going : p.refusal ≡ 0
   pub same : (s : Sheet) → read_body (heading_lines + 1) 0 (lines_of (drop from text)) (with_lists s [] [] [] []) ≡ rest_of text p (so_far s p ls rs cs ns)
 
 pub going_begin : {text : List ℕ} {from : ℕ} {ls rs cs ns : List ℕ} → BodyReady text from ls rs cs ns
-    → Going text from (record { refusal = 0; line = 5; at = from; due = 0; contours = 0; vertices = 0 }) ls rs cs ns
+    → Going text from (record { line = 5; at = from; due = 0; contours = 0; vertices = 0 }) ls rs cs ns
 unfolding rest_of so_far sum_over over run
 going_begin b = record {
   standing = record {
@@ -278,19 +242,13 @@ going_begin b = record {
     numbers = b.numbers;
     declared = refl;
   };
-  going = refl;
   same = λ s. refl;
 }
 
--- a refusal is what the whole comes to
-refused : (text : List ℕ) (p : Progress) (s : Sheet) → 0 < p.refusal → rest_of text p s ≡ end_of p s
-unfolding rest_of end_of
-refused text p s h = rw (ne_eqb p.refusal 0 (λ (z : p.refusal ≡ 0). omega arith), rest_of) refl
-
 -- no lines are left: all is read, or a vertex is missing
-all_read : (k : ℕ) {d : ℕ} (p : Progress) (s : Sheet) → d ≡ 0 → p.refusal ≡ 0 → read_body k d [] s ≡ end_of p s
-unfolding read_body end_of
-all_read k p s e f = rw (e, eq-eqb p.refusal 0 f) refl
+all_read : (k : ℕ) {d : ℕ} (s : Sheet) → d ≡ 0 → read_body k d [] s ≡ taken s
+unfolding read_body
+all_read k s e = rw e refl
 
 vertex_missing : (k d : ℕ) (s : Sheet) → 0 < d → read_body k d [] s ≡ bad 22 k
 unfolding read_body
@@ -299,48 +257,46 @@ vertex_missing k (suc d) s h = refl
 
 module _ {text : List ℕ} {from : ℕ} {p : Progress} {ls rs cs ns : List ℕ} (g : Going text from p ls rs cs ns) where
   pub going_ready : p.at < length text → LineReady text p ls rs cs ns
-  going_ready h = record { standing = g.standing; going = g.going; more = h }
+  going_ready h = record { standing = g.standing; more = h }
 
   -- a line was read
-  module _ {q : Progress} {ls' rs' cs' ns' : List ℕ} (r : Stepped text p q ls rs cs ns ls' rs' cs' ns') where
-    pub going_next : q.refusal ≤ 0 → Going text from q ls' rs' cs' ns'
-    going_next h = record { standing = r.standing; going = omega arith; same = λ s. g.same s ∙ r.same s }
+  module _ {r : Result Progress SheetRefusal} {ls' rs' cs' ns' : List ℕ} (t : Stepped text p r ls rs cs ns ls' rs' cs' ns') where
+    pub going_further : {q : Progress} → r ≡ Ok q → Further text p q ls' rs' cs' ns'
+    unfolding Moved
+    going_further e = subst (λ (x : Result Progress SheetRefusal). Moved text p x ls' rs' cs' ns') e t.moved
 
-    pub going_refused : 0 < q.refusal → BodyRead text from q ls' rs' cs' ns'
-    unfolding so_far
-    going_refused h =
-        let t = r.standing in
-        record {
-          contours = t.within.few;
-          vertices = omega (arith, t.within.room);
-          declared = λ (z : q.refusal ≤ 0). absurd (omega arith);
-          same = λ s. g.same s ∙ r.same s ∙ refused text q (so_far s q ls' rs' cs' ns') h;
-        }
+    pub going_next : {q : Progress} → r ≡ Ok q → Going text from q ls' rs' cs' ns'
+    unfolding rest_as
+    going_next e = record {
+      standing = (going_further e).standing;
+      same = λ s. g.same s ∙ t.same s ∙ ap (λ (x : Result Progress SheetRefusal). rest_as text x ls' rs' cs' ns' s) e;
+    }
+
+    pub going_refused : {z : SheetRefusal} → r ≡ Err z → BodyRead text from (Err z) ls' rs' cs' ns'
+    unfolding rest_as end_as CountedAs
+    going_refused e = record {
+      counted = Prim.tt;
+      same = λ s. g.same s ∙ t.same s ∙ ap (λ (x : Result Progress SheetRefusal). rest_as text x ls' rs' cs' ns' s) e;
+    }
 
   -- there are no more lines
   module _ (h : length text ≤ p.at) where
     no_lines : (s : Sheet) → rest_of text p s ≡ read_body p.line p.due [] s
     unfolding rest_of
-    no_lines s = rw (eq-eqb p.refusal 0 g.going, rest_of) (ap (λ (l : List Line). read_body p.line p.due l s) (line_missing text p.at h))
+    no_lines s = ap (λ (l : List Line). read_body p.line p.due l s) (line_missing text p.at h)
 
-    pub going_due : {q : Progress} → 0 < p.due → q ≡ stopped_by 22 p → BodyRead text from q ls rs cs ns
-    unfolding stopped_by end_of so_far
-    going_due {q} d e =
-        let t = g.standing in
-        subst (λ (x : Progress). BodyRead text from x ls rs cs ns) (sym e) (record {
-          contours = t.within.few;
-          vertices = omega (arith, t.within.room);
-          declared = λ (z : 22 ≤ 0). absurd (omega arith);
-          same = λ s. g.same s ∙ no_lines (so_far s p ls rs cs ns) ∙ vertex_missing p.line p.due (so_far s p ls rs cs ns) d;
-        })
+    pub going_due : 0 < p.due → BodyRead text from (Err (Malformed p.line)) ls rs cs ns
+    unfolding end_as CountedAs refused_as number_of line_of
+    going_due d = record {
+      counted = Prim.tt;
+      same = λ s. g.same s ∙ no_lines (so_far s p ls rs cs ns) ∙ vertex_missing p.line p.due (so_far s p ls rs cs ns) d;
+    }
 
-    pub going_end : p.due ≤ 0 → BodyRead text from p ls rs cs ns
-    unfolding so_far
+    pub going_end : p.due ≤ 0 → BodyRead text from (Ok p) ls rs cs ns
+    unfolding end_as CountedAs
     going_end d =
         let t = g.standing in
         record {
-          contours = t.within.few;
-          vertices = omega (arith, t.within.room);
-          declared = λ z. omega (arith, t.declared);
-          same = λ s. g.same s ∙ no_lines (so_far s p ls rs cs ns) ∙ all_read p.line p (so_far s p ls rs cs ns) (omega arith) g.going;
+          counted = record { contours = t.within.few; vertices = omega (arith, t.within.room); declared = omega (arith, t.declared) };
+          same = λ s. g.same s ∙ no_lines (so_far s p ls rs cs ns) ∙ all_read p.line (so_far s p ls rs cs ns) (omega arith);
         }

@@ -1,12 +1,13 @@
 -- The heading lines, one after the other: a line that is bad is the refusal, and behind a good one the heading comes to what the lines that are left come to.
 -- A line of a name and one word is known by its whole text, since its cells joined by tabs are the text again. Assumes nothing.
+use Rattle.std.specs.Prelude.{Option, Some, None, Result, Ok, Err}
 use mathlib.Core.Path.{◌≡◌, refl, sym, ap, ◌∙◌, subst}
 use mathlib.Core.Bool.{Bool, true, false, true≢false}
 use mathlib.Core.List.{List, [], ◌∷◌, ◌++◌}
 use Prim.Native.Nat.{ℕ, ◌+◌, ◌≤◌, ◌<◌}
 use native.Mathlib.Omega.{arith}
 use lib.Dec.{eqb}
-use lib.ListN.{length, take, drop}
+use lib.ListN.{length, take, drop, get_or}
 use lib.Seq.{drop-drop}
 use borrow.Author.Tests.{eqb-true, eq-eqb}
 use Rattle.ints.specs.Bools.{and_left, and_right}
@@ -18,10 +19,7 @@ use Rattle.lines.specs.Scan.{place_of, parts_some}
 use Rattle.lines.specs.Read.{line_end, numbers_at}
 use Rattle.lines.specs.Taken.{line_at_lem, no_cells, Good}
 use Rattle.sheet.specs.declared.heading.Heading.{Heading}
-use Rattle.sheet.specs.declared.heading.HeadingRead.{HeadingRead}
-use Rattle.sheet.specs.declared.heading.HeadingRead.TheVariants.{Headed}
-use Rattle.sheet.specs.declared.heading.UnitRead.{UnitRead}
-use Rattle.sheet.specs.declared.heading.UnitRead.TheVariants.{Known, Missing}
+use Rattle.sheet.specs.declared.refusal.SheetRefusal.{SheetRefusal}
 use Rattle.sheet.specs.Reading.{UnitIs, from_grid, from_nvp, from_cell, sheet_of, headed_as, BehindIs, Behind}
 
 -- ---- a text is the same as another, and a text is its parts
@@ -122,17 +120,17 @@ module _ (text : List ℕ) {e : ℕ} (q : e ≡ 0 + place_of lf (drop 0 text)) w
   first_line h = let x : place_of lf text ≡ e = omega arith in let y : 0 + e + 1 ≡ e + 1 = omega arith in rw (x, y) at (line_at_lem text 0 (omega arith))
 
   pub unit_known : (inches : Bool) → e < length text → ((f : Bool → Read Sheet) → need_unit (parts tab_byte (take e text)) f ≡ f inches)
-      → UnitIs text (Known inches (e + 1))
+      → UnitIs text (Some (inches, e + 1))
   unfolding UnitIs line_at
   unit_known inches h k =
       let l = first_line h in
       ((λ f. rw l (k f)), (rw l refl), omega arith)
 
-  pub unit_missing : e < length text → ((f : Bool → Read Sheet) → need_unit (parts tab_byte (take e text)) f ≡ bad 21 1) → UnitIs text Missing
+  pub unit_missing : e < length text → ((f : Bool → Read Sheet) → need_unit (parts tab_byte (take e text)) f ≡ bad 21 1) → UnitIs text None
   unfolding UnitIs line_at
   unit_missing h k f = rw (first_line h) (k f)
 
-  pub unit_open : length text ≤ e → UnitIs text Missing
+  pub unit_open : length text ≤ e → UnitIs text None
   unfolding UnitIs line_at need_unit
   unit_open h f = ap (λ (l : Line). need_unit l f) (no_cells text 0 (omega arith))
 
@@ -145,12 +143,12 @@ heading_steps (a ∷ (b ∷ [])) = refl
 heading_steps (a ∷ (b ∷ (c ∷ []))) = refl
 heading_steps (a ∷ (b ∷ (c ∷ (d ∷ ls)))) = refl
 
-module _ (text : List ℕ) {u : UnitRead} (is : UnitIs text u) where
-  pub heading_missing : u ≡ Missing → read_heading (lines_of text) ≡ bad 21 1
+module _ (text : List ℕ) {u : Option (Bool × ℕ)} (is : UnitIs text u) where
+  pub heading_missing : u ≡ None → read_heading (lines_of text) ≡ bad 21 1
   unfolding UnitIs
   heading_missing e = heading_steps (lines_of text) ∙ subst (UnitIs text) e is (λ inches. from_cell inches (drop 1 (lines_of text)))
 
-  module _ {inches : Bool} {p : ℕ} (e : u ≡ Known inches p) where
+  module _ {inches : Bool} {p : ℕ} (e : u ≡ Some (inches, p)) where
     pub heading_known : read_heading (lines_of text) ≡ from_cell inches (lines_of (drop p text))
     unfolding UnitIs
     heading_known =
@@ -162,40 +160,41 @@ module _ (text : List ℕ) {u : UnitRead} (is : UnitIs text u) where
     known_within = (subst (UnitIs text) e is).2
 
     -- the lines behind three more are those behind the heading
-    pub known_behind : (r : HeadingRead) → BehindIs text (drop 3 (lines_of (drop p text))) r → Behind text r
+    pub known_behind : (r : Result Heading SheetRefusal) → BehindIs text (drop 3 (lines_of (drop p text))) r → Behind text r
     unfolding UnitIs
     known_behind r b =
         let q : drop 3 (lines_of (drop p text)) ≡ drop heading_lines (lines_of text) = ap (drop 3) (subst (UnitIs text) e is).1 ∙ drop-drop 3 1 (lines_of text) in
         subst (λ (ls : List Line). BehindIs text ls r) q b
 
 -- ---- the cell line, the nvp line and the grid line
-abbrev pub CellGood : List ℕ → ℕ → LineRead → Type 0
+abbrev pub CellGood : List ℕ → ℕ → LineRead 2 → Type 0
 CellGood text p r = Good text p cell_name cell_least (cell_most ∷ cell_most ∷ []) r
 
-abbrev pub NvpGood : List ℕ → ℕ → LineRead → Type 0
+abbrev pub NvpGood : List ℕ → ℕ → LineRead 1 → Type 0
 NvpGood text p r = Good text p nvp_name 0 (number_most ∷ []) r
 
-abbrev pub GridGood : List ℕ → ℕ → LineRead → Type 0
+abbrev pub GridGood : List ℕ → ℕ → LineRead 3 → Type 0
 GridGood text p r = Good text p grid_name 0 (number_most ∷ number_most ∷ number_most ∷ []) r
 
 -- their numbers are within the limits
-module _ {text : List ℕ} {p : ℕ} {r : LineRead} where
-  pub cell_most_lem : CellGood text p r → (r.a ≤ cell_most) × (r.b ≤ cell_most)
-  cell_most_lem g = (omega (arith, g.a, g.limits.most 0 (omega arith)), omega (arith, g.b, g.limits.most 1 (omega arith)))
+module _ {text : List ℕ} {p : ℕ} where
+  pub cell_most_lem : {r : LineRead 2} → CellGood text p r → (get_or r.numbers 0 0 ≤ cell_most) × (get_or r.numbers 1 0 ≤ cell_most)
+  cell_most_lem g = ((g.limits.most 0 (omega arith)).1, (g.limits.most 1 (omega arith)).1)
 
-  pub nvp_most : NvpGood text p r → r.a ≤ number_most
-  nvp_most g = omega (arith, g.a, g.limits.most 0 (omega arith))
+  pub nvp_most : {r : LineRead 1} → NvpGood text p r → get_or r.numbers 0 0 ≤ number_most
+  nvp_most g = (g.limits.most 0 (omega arith)).1
 
-  pub grid_most : GridGood text p r → (r.a ≤ number_most) × (r.b ≤ number_most) × (r.c ≤ number_most)
-  grid_most g = (omega (arith, g.a, g.limits.most 0 (omega arith)), omega (arith, g.b, g.limits.most 1 (omega arith)), omega (arith, g.c, g.limits.most 2 (omega arith)))
+  pub grid_most : {r : LineRead 3} → GridGood text p r
+      → (get_or r.numbers 0 0 ≤ number_most) × (get_or r.numbers 1 0 ≤ number_most) × (get_or r.numbers 2 0 ≤ number_most)
+  grid_most g = ((g.limits.most 0 (omega arith)).1, (g.limits.most 1 (omega arith)).1, (g.limits.most 2 (omega arith)).1)
 
 module _ (text : List ℕ) (p : ℕ) (inches : Bool) where
   pub cell_bad : numbers_at text p cell_name cell_least (cell_most ∷ cell_most ∷ []) ≡ malformed → from_cell inches (lines_of (drop p text)) ≡ bad 22 2
   unfolding from_cell cell_numbers line_at numbers_at need
   cell_bad e = rw e refl
 
-  module _ {cell : LineRead} (g : CellGood text p cell) where
-    cell_good : from_cell inches (lines_of (drop p text)) ≡ from_nvp inches g.ns (lines_of (drop cell.next text))
+  module _ {cell : LineRead 2} (g : CellGood text p cell) where
+    cell_good : from_cell inches (lines_of (drop p text)) ≡ from_nvp inches cell.numbers (lines_of (drop cell.next text))
     unfolding from_cell cell_numbers line_at numbers_at need
     cell_good = rw (g.says, g.rest) refl
 
@@ -203,8 +202,8 @@ module _ (text : List ℕ) (p : ℕ) (inches : Bool) where
     unfolding from_nvp nvp_numbers line_at numbers_at need
     nvp_bad e = cell_good ∙ rw e refl
 
-    module _ {limit : LineRead} (h : NvpGood text cell.next limit) where
-      nvp_good : from_cell inches (lines_of (drop p text)) ≡ from_grid inches g.ns h.ns (lines_of (drop limit.next text))
+    module _ {limit : LineRead 1} (h : NvpGood text cell.next limit) where
+      nvp_good : from_cell inches (lines_of (drop p text)) ≡ from_grid inches cell.numbers limit.numbers (lines_of (drop limit.next text))
       unfolding from_nvp nvp_numbers line_at numbers_at need
       nvp_good = cell_good ∙ rw (h.says, h.rest) refl
 
@@ -212,24 +211,24 @@ module _ (text : List ℕ) (p : ℕ) (inches : Bool) where
       unfolding from_grid grid_numbers line_at numbers_at need
       grid_bad e = nvp_good ∙ rw e refl
 
-      module _ {grid : LineRead} (k : GridGood text limit.next grid) where
+      module _ {grid : LineRead 3} (k : GridGood text limit.next grid) where
         abbrev headed : Heading
         headed = record {
           inches = inches;
-          size = cell.a;
-          height = cell.b;
-          nvp = limit.a;
-          w = grid.a;
-          h = grid.b;
-          border = grid.c;
+          size = get_or cell.numbers 0 0;
+          height = get_or cell.numbers 1 0;
+          nvp = get_or limit.numbers 0 0;
+          w = get_or grid.numbers 0 0;
+          h = get_or grid.numbers 1 0;
+          border = get_or grid.numbers 2 0;
           at = grid.next;
         }
 
-        pub grid_good : from_cell inches (lines_of (drop p text)) ≡ headed_as (Headed headed)
+        pub grid_good : from_cell inches (lines_of (drop p text)) ≡ headed_as (Ok headed)
         unfolding from_grid grid_numbers line_at numbers_at need headed_as sheet_of no_contours
-        grid_good = nvp_good ∙ rw (k.says, g.a, g.b, h.a, k.a, k.b, k.c) refl
+        grid_good = nvp_good ∙ rw k.says refl
 
-        pub all_behind : BehindIs text (drop 3 (lines_of (drop p text))) (Headed headed)
+        pub all_behind : BehindIs text (drop 3 (lines_of (drop p text))) (Ok headed)
         unfolding BehindIs
         all_behind =
             let two : drop 2 (lines_of (drop p text)) ≡ lines_of (drop limit.next text) =

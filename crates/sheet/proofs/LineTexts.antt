@@ -8,15 +8,15 @@ use Rattle.mem.specs.Packed.{packed}
 use Rattle.rules.specs.Lines.{tab_byte, lf, cell, signed_cell, number_line}
 use Rattle.rules.specs.Sheet.{unit_name, mm_name, in_name, cell_name, refused_name, mesh_name, p_name, n_name, refused_text, unit_line, polygon_lines}
 use Rattle.lines.specs.Pieces.{joined}
-use Rattle.sheet.specs.Rows.{top_text, mesh_line_of, polygon_text}
+use Rattle.sheet.specs.Rows.{line_of_values, top_text, mesh_line_of, polygon_text}
 
--- a name and numbers
-abbrev pub line_texts : List ℕ → List ℕ → List (List ℕ)
-line_texts name ns = name ∷ (packed cell ns ∷ ((lf ∷ []) ∷ []))
+-- a name and values
+abbrev pub line_texts : {B : Type 0} → (B → ℕ) → List ℕ → List B → List (List ℕ)
+line_texts says name bs = name ∷ (packed (λ b. cell (says b)) bs ∷ ((lf ∷ []) ∷ []))
 
-pub line_texts_lem : (name ns : List ℕ) → number_line name ns ≡ joined (line_texts name ns)
-unfolding number_line joined
-line_texts_lem name ns = refl
+pub line_texts_lem : {B : Type 0} (says : B → ℕ) (name : List ℕ) (bs : List B) → line_of_values says name bs ≡ joined (line_texts says name bs)
+unfolding joined
+line_texts_lem says name bs = refl
 
 abbrev pub refused_texts : ℕ → ℕ → List (List ℕ)
 refused_texts number line = refused_name ∷ (cell number ∷ (cell line ∷ ((lf ∷ []) ∷ [])))

@@ -2,6 +2,8 @@
 -- the lines of a stored mesh as they are printed, and the whole
 pub mod Rows
 pub mod Printable
+-- the refusals of a sheet
+pub mod Refusals
 -- a line that has to have numbers, and how far a sheet has been read
 pub mod Needs
 pub mod Reading

@@ -1,5 +1,6 @@
--- The lines of a mesh as they are printed, by numbers and by words of the lent buffers. Definitions only.
-use Rattle.std.specs.Prelude.{Bool, List, [], ◌∷◌, ◌++◌, ℕ, ◌*◌, ◌≤◌, ℤ, length}
+-- The lines of a mesh as they are printed, by numbers and by words of the lent buffers. Assumes nothing.
+use Rattle.std.specs.Prelude.{Bool, List, [], ◌∷◌, ◌++◌, ℕ, ◌*◌, ◌≤◌, ℤ, ◌≡◌, refl, length}
+use Rattle.mem.specs.Packed.{packed}
 use Rattle.mem.specs.Tab.{tab}
 use Rattle.rules.specs.Lines.{lf, cell, signed_cell, number_line}
 use Rattle.rules.specs.Checks.{vertex_stride}
@@ -7,6 +8,15 @@ use Rattle.rules.specs.Exits.{stored_polygon, stored_links}
 use Rattle.rules.specs.Sheet.{mesh_name, unit_line, cell_name, polygon_lines, vertices_text, polygons_text}
 use Rattle.lines.specs.Print.{Room}
 use Rattle.stored.specs.Stored.{lent_of, stored_vertices}
+
+-- the line of a name and of values, each of which says a number
+abbrev pub line_of_values : {B : Type 0} → (B → ℕ) → List ℕ → List B → List ℕ
+line_of_values says name bs = name ++ (packed (λ b. cell (says b)) bs ++ (lf ∷ []))
+
+-- it is that of their numbers
+pub line_of_numbers : (name ns : List ℕ) → line_of_values (λ n. n) name ns ≡ number_line name ns
+unfolding number_line
+line_of_numbers name ns = refl
 
 -- the two lines above a mesh: the unit and the cell, as they were read
 unfoldable pub top_text : Bool → ℕ → ℕ → List ℕ

@@ -1,7 +1,7 @@
 -- What the bytes of a sheet come to, for each way that the reading ends; and what is printed for them by f, for any f. Assumes nothing.
 -- Key: `long_read`, `bad_heading`, `good_heading`, `bad_body`, `good_body`: the reading; `bad_as`, `taken_as`: its answer; `text_read`,
 -- `bad_text`, `taken_text`: what is printed, for any reader.
-use Rattle.std.specs.Prelude.{◌≡◌, Bool, List, ℕ, ◌+◌, ◌*◌, ◌≤◌, ◌<◌, ltb, length, take}
+use Rattle.std.specs.Prelude.{◌≡◌, Bool, List, ℕ, ◌+◌, ◌*◌, ◌≤◌, ◌<◌, ltb, length, take, Result, Ok, Err}
 use Rattle.std.proofs.Math.Path.{refl, ap, subst}
 use Rattle.std.proofs.Common.{sym, ◌∙◌, lt-ltb, le-ltb, eq-eqb, ne_eqb}
 use Rattle.std.proofs.Math.Bool.{true, false}
@@ -12,12 +12,12 @@ use Rattle.rules.specs.Sheet.{bytes_most, heading_lines, Sheet, Read, taken, bad
 use Rattle.lines.specs.Print.{Printed}
 use Rattle.lines.specs.Printing.{printed_as}
 use Rattle.sheet.specs.declared.heading.Heading.{Heading}
-use Rattle.sheet.specs.declared.heading.HeadingRead.{HeadingRead}
-use Rattle.sheet.specs.declared.heading.HeadingRead.TheVariants.{Headed, Refused}
 use Rattle.sheet.specs.declared.body.Progress.{Progress}
-use Rattle.sheet.specs.declared.read.SheetRead.{SheetRead}
-use Rattle.sheet.specs.declared.read.SheetRead.TheVariants.{Taken, Bad}
-use Rattle.sheet.specs.Reading.{sheet_of, headed_as, goes_on, BehindIs, Behind, with_lists, end_of, BodyReady, BodyRead}
+use Rattle.sheet.specs.declared.read.JobSheet.{JobSheet}
+use Rattle.sheet.specs.declared.refusal.SheetRefusal.{SheetRefusal}
+use Rattle.sheet.specs.declared.refusal.SheetRefusal.TheVariants.{TooLong}
+use Rattle.sheet.specs.Refusals.{number_of, line_of, refused_as}
+use Rattle.sheet.specs.Reading.{sheet_of, headed_as, goes_on, BehindIs, Behind, with_lists, so_far, end_as, Counted, CountedAs, BodyReady, BodyRead}
 use Rattle.sheet.specs.Reading.{bytes_by, read_bytes, ListsReady, TakenAs, FoundAs, ReadAs}
 use Rattle.sheet.specs.Room.{out_most, printed_short, printed_counts}
 
@@ -33,46 +33,51 @@ module _ {A : Type 0} (read : List Line → Read A) (t : List ℕ) where
   short_bytes h = rw (le-ltb bytes_most (length t) h, bytes_by) refl
 
 -- a sheet comes to what its heading comes to, and then to the lines behind it
-pub heading_on : (t : List ℕ) (r : HeadingRead) → read_heading (lines_of t) ≡ headed_as r → Behind t r → read_sheet (lines_of t) ≡ goes_on t r
-unfolding read_sheet and_then headed_as goes_on BehindIs
-heading_on t (Headed x) e b = rw e (ap (λ (ls : List Line). read_body (heading_lines + 1) 0 ls (sheet_of x)) (sym b.rest))
-heading_on t (Refused n k) e b = rw e refl
+pub heading_on : (t : List ℕ) (r : Result Heading SheetRefusal) → read_heading (lines_of t) ≡ headed_as r → Behind t r → read_sheet (lines_of t) ≡ goes_on t r
+unfolding read_sheet and_then headed_as goes_on BehindIs refused_as
+heading_on t (Ok x) e b = rw e (ap (λ (ls : List Line). read_body (heading_lines + 1) 0 ls (sheet_of x)) (sym b.rest))
+heading_on t (Err z) e b = rw e refl
 
 -- ---- what is read
 
 module _ (t ls rs cs ns : List ℕ) where
-  pub long_read : bytes_most < length t → ReadAs (read_bytes t) (Bad 23 0) ls rs cs ns
-  unfolding FoundAs
+  pub long_read : bytes_most < length t → ReadAs (read_bytes t) (Err TooLong) ls rs cs ns
+  unfolding FoundAs refused_as number_of line_of
   long_read h = record { found = long_bytes read_sheet t h }
 
-  module _ (h : length t ≤ bytes_most) (r : HeadingRead) (e : read_heading (lines_of t) ≡ headed_as r) (b : Behind t r) where
-    pub bad_heading : (n k : ℕ) → r ≡ Refused n k → ReadAs (read_bytes t) (Bad n k) ls rs cs ns
+  module _ (h : length t ≤ bytes_most) (r : Result Heading SheetRefusal) (e : read_heading (lines_of t) ≡ headed_as r) (b : Behind t r) where
+    pub bad_heading : (z : SheetRefusal) → r ≡ Err z → ReadAs (read_bytes t) (Err z) ls rs cs ns
     unfolding FoundAs goes_on
-    bad_heading n k q = record { found = short_bytes read_sheet t h ∙ heading_on t r e b ∙ ap (goes_on t) q }
+    bad_heading z q = record { found = short_bytes read_sheet t h ∙ heading_on t r e b ∙ ap (goes_on t) q }
 
-    pub good_heading : (x : Heading) (a : SheetRead) → r ≡ Headed x → ReadAs (goes_on t (Headed x)) a ls rs cs ns → ReadAs (read_bytes t) a ls rs cs ns
+    pub good_heading : (x : Heading) (a : Result JobSheet SheetRefusal) → r ≡ Ok x → ReadAs (goes_on t (Ok x)) a ls rs cs ns → ReadAs (read_bytes t) a ls rs cs ns
     good_heading x a q s = let z = short_bytes read_sheet t h ∙ heading_on t r e b ∙ ap (goes_on t) q in rw z s
 
   -- the lines behind a heading
-  module _ (x : Heading) (p : Progress) (b : BodyRead t x.at p ls rs cs ns) where
-    whole : goes_on t (Headed x)
-        ≡ end_of p (with_lists (sheet_of x) (take p.contours ls) (take p.contours rs) (take p.contours cs) (take (p.vertices * job_stride) ns))
+  module _ (x : Heading) {r : Result Progress SheetRefusal} (b : BodyRead t x.at r ls rs cs ns) where
+    whole : goes_on t (Ok x) ≡ end_as r ls rs cs ns (sheet_of x)
     unfolding goes_on with_lists sheet_of
     whole = b.same (sheet_of x)
 
-    pub bad_body : 0 < p.refusal → ReadAs (goes_on t (Headed x)) (Bad p.refusal p.line) ls rs cs ns
-    unfolding FoundAs end_of
-    bad_body h = record { found = whole ∙ rw (ne_eqb p.refusal 0 (λ e. absurd (omega arith))) refl }
+    pub bad_body : {e : SheetRefusal} → r ≡ Err e → ReadAs (goes_on t (Ok x)) (Err e) ls rs cs ns
+    unfolding FoundAs end_as
+    bad_body q = record { found = whole ∙ ap (λ (a : Result Progress SheetRefusal). end_as a ls rs cs ns (sheet_of x)) q }
 
-    pub good_body : p.refusal ≤ 0 → ReadAs (goes_on t (Headed x)) (Taken x p.contours p.vertices) ls rs cs ns
-    unfolding FoundAs end_of
-    good_body h =
-        let e : p.refusal ≡ 0 = omega arith in
-        let t : TakenAs (goes_on t (Headed x)) x p.contours p.vertices ls rs cs ns =
-        record { contours = b.contours; vertices = b.vertices; declared = b.declared h; same = whole ∙ rw (eq-eqb p.refusal 0 e) refl } in
-        record { found = t }
+    pub good_body : {p : Progress} → r ≡ Ok p
+        → ReadAs (goes_on t (Ok x)) (Ok (record { heading = x; contours = p.contours; vertices = p.vertices })) ls rs cs ns
+    unfolding FoundAs end_as so_far CountedAs
+    good_body {p} q =
+        let k : Counted p ls = subst (λ (a : Result Progress SheetRefusal). CountedAs a ls) q b.counted in
+        let f : TakenAs (goes_on t (Ok x)) x p.contours p.vertices ls rs cs ns =
+        record {
+          contours = k.contours;
+          vertices = k.vertices;
+          declared = k.declared;
+          same = whole ∙ ap (λ (a : Result Progress SheetRefusal). end_as a ls rs cs ns (sheet_of x)) q;
+        } in
+        record { found = f }
 
-pub body_ready : {ls rs cs ns : List ℕ} (t : List ℕ) (r : HeadingRead) (x : Heading) → r ≡ Headed x → Behind t r → length t ≤ bytes_most → ListsReady ls rs cs ns
+pub body_ready : {ls rs cs ns : List ℕ} (t : List ℕ) (r : Result Heading SheetRefusal) (x : Heading) → r ≡ Ok x → Behind t r → length t ≤ bytes_most → ListsReady ls rs cs ns
     → BodyReady t x.at ls rs cs ns
 unfolding BehindIs
 body_ready t r x e b h l =
@@ -98,14 +103,14 @@ module _ {A : Type 0} (read : List Line → Read A) (f : A → List ℕ) (t : Li
   unfolding read_text
   taken_text e = text_read ∙ ap (read_text f) e
 
-module _ {w : Read Sheet} {r : SheetRead} {ls rs cs ns : List ℕ} (a : ReadAs w r ls rs cs ns) where
-  pub bad_as : {n k : ℕ} → r ≡ Bad n k → w ≡ bad n k
+module _ {w : Read Sheet} {r : Result JobSheet SheetRefusal} {ls rs cs ns : List ℕ} (a : ReadAs w r ls rs cs ns) where
+  pub bad_as : {e : SheetRefusal} → r ≡ Err e → w ≡ refused_as e
   unfolding FoundAs
-  bad_as e = subst (λ (q : SheetRead). FoundAs w q ls rs cs ns) e a.found
+  bad_as e = subst (λ (q : Result JobSheet SheetRefusal). FoundAs w q ls rs cs ns) e a.found
 
-  pub taken_as : {x : Heading} {c v : ℕ} → r ≡ Taken x c v → TakenAs w x c v ls rs cs ns
+  pub taken_as : {s : JobSheet} → r ≡ Ok s → TakenAs w s.heading s.contours s.vertices ls rs cs ns
   unfolding FoundAs
-  taken_as e = subst (λ (q : SheetRead). FoundAs w q ls rs cs ns) e a.found
+  taken_as e = subst (λ (q : Result JobSheet SheetRefusal). FoundAs w q ls rs cs ns) e a.found
 
 -- ---- for the functions that users call
 

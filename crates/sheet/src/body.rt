@@ -1,8 +1,8 @@
 // The lines behind the heading are read: contours, each with its vertices.
-ghost use Rattle.std.specs.Prelude.{◌≡◌};
-ghost use Rattle.sheet.specs.Reading.{stopped_by, ContourReady, ContourRead, VertexReady, VertexRead, LineReady, Stepped, BodyReady, BodyRead};
+ghost use Rattle.sheet.specs.Reading.{ContourReady, ContourRead, VertexReady, VertexRead, LineReady, Stepped, BodyReady, BodyRead};
 
 use crate::heading::NUMBER_MOST;
+use crate::refusal::SheetRefusal;
 use lines::line::read_line;
 
 // The most that an area code may be.
@@ -21,29 +21,14 @@ const JOB_STRIDE: usize = 4;
 const FIRST_LINE: u64 = 5;
 
 // How far the reading is: the line and the place that come next, the vertices that the last contour still needs, and how
-// many contours and vertices there are. With a refusal, `line` is its line; otherwise `refusal` is 0.
+// many contours and vertices there are.
 #[derive(Clone, Copy)]
 pub struct Progress {
-    pub refusal: u64,
     pub line: u64,
     pub at: usize,
     pub due: usize,
     pub contours: usize,
     pub vertices: usize,
-}
-
-// The reading ends here.
-fn stopped(p: Progress, refusal: u64) -> Progress
-    ensures { result ≡ stopped_by refusal p }
-{
-    Progress {
-        refusal: refusal,
-        line: p.line,
-        at: p.at,
-        due: p.due,
-        contours: p.contours,
-        vertices: p.vertices,
-    }
 }
 
 // A contour line: region, area code, length. Nothing is written of a bad one.
@@ -53,57 +38,48 @@ fn contour_line(
     lengths: &mut [u32],
     regions: &mut [u16],
     codes: &mut [u8],
-) -> Progress
+) -> Result<Progress, SheetRefusal>
     requires { ContourReady text.now p lengths.old regions.old codes.old }
     ensures { ContourRead text.now p result lengths.old regions.old codes.old lengths.new regions.new codes.new }
 {
     let full = CONTOURS_MOST < p.contours + 1;
     let mosts = [NUMBER_MOST, CODE_MOST, NUMBER_MOST];
-    let contour = read_line(text, p.at, b"contour", 0, &mosts);
-    if contour.good {
-        let n = contour.c as usize;
-        if full | (DECLARED_MOST < p.vertices + n) {
-            return stopped(p, 24);
-        }
-        let k = p.contours;
-        lengths[k] = contour.c as u32;
-        regions[k] = contour.a as u16;
-        codes[k] = contour.b as u8;
-        return Progress {
-            refusal: 0,
-            line: p.line + 1,
-            at: contour.next,
-            due: n,
-            contours: k + 1,
-            vertices: p.vertices,
-        };
+    let contour = read_line(text, p.at, b"contour", 0, &mosts).ok_or(SheetRefusal::Malformed(p.line))?;
+    let n = contour.numbers[2] as usize;
+    if full | (DECLARED_MOST < p.vertices + n) {
+        return Err(SheetRefusal::TooMany(p.line));
     }
-    stopped(p, 22)
+    let k = p.contours;
+    lengths[k] = contour.numbers[2] as u32;
+    regions[k] = contour.numbers[0] as u16;
+    codes[k] = contour.numbers[1] as u8;
+    Ok(Progress {
+        line: p.line + 1,
+        at: contour.next,
+        due: n,
+        contours: k + 1,
+        ..p
+    })
 }
 
 // A vertex line: x, y, z and flag.
-fn vertex_line(text: &[u8], p: Progress, numbers: &mut [u16]) -> Progress
+fn vertex_line(text: &[u8], p: Progress, numbers: &mut [u16]) -> Result<Progress, SheetRefusal>
     requires { VertexReady text.now p numbers.old }
     ensures { VertexRead text.now p result numbers.old numbers.new }
 {
-    let mosts = [NUMBER_MOST; 4];
-    let vertex = read_line(text, p.at, b"v", 0, &mosts);
-    if vertex.good {
-        let k = p.vertices * JOB_STRIDE;
-        numbers[k] = vertex.a as u16;
-        numbers[k + 1] = vertex.b as u16;
-        numbers[k + 2] = vertex.c as u16;
-        numbers[k + 3] = vertex.d as u16;
-        return Progress {
-            refusal: 0,
-            line: p.line + 1,
-            at: vertex.next,
-            due: p.due - 1,
-            contours: p.contours,
-            vertices: p.vertices + 1,
-        };
-    }
-    stopped(p, 22)
+    let vertex = read_line(text, p.at, b"v", 0, &[NUMBER_MOST; 4]).ok_or(SheetRefusal::Malformed(p.line))?;
+    let k = p.vertices * JOB_STRIDE;
+    numbers[k] = vertex.numbers[0] as u16;
+    numbers[k + 1] = vertex.numbers[1] as u16;
+    numbers[k + 2] = vertex.numbers[2] as u16;
+    numbers[k + 3] = vertex.numbers[3] as u16;
+    Ok(Progress {
+        line: p.line + 1,
+        at: vertex.next,
+        due: p.due - 1,
+        vertices: p.vertices + 1,
+        ..p
+    })
 }
 
 // One line: a contour's, or a vertex's as long as one is due.
@@ -114,7 +90,7 @@ fn one_line(
     regions: &mut [u16],
     codes: &mut [u8],
     numbers: &mut [u16],
-) -> Progress
+) -> Result<Progress, SheetRefusal>
     requires { LineReady text.now p lengths.old regions.old codes.old numbers.old }
     ensures { Stepped text.now p result lengths.old regions.old codes.old numbers.old lengths.new regions.new codes.new numbers.new }
 {
@@ -132,12 +108,11 @@ pub fn read_body(
     regions: &mut [u16],
     codes: &mut [u8],
     numbers: &mut [u16],
-) -> Progress
+) -> Result<Progress, SheetRefusal>
     requires { BodyReady text.now from lengths.old regions.old codes.old numbers.old }
     ensures { BodyRead text.now from result lengths.new regions.new codes.new numbers.new }
 {
     let mut p = Progress {
-        refusal: 0,
         line: FIRST_LINE,
         at: from,
         due: 0,
@@ -145,13 +120,10 @@ pub fn read_body(
         vertices: 0,
     };
     while p.at < text.len() {
-        p = one_line(text, p, lengths, regions, codes, numbers);
-        if p.refusal > 0 {
-            return p;
-        }
+        p = one_line(text, p, lengths, regions, codes, numbers)?;
     }
     if p.due > 0 {
-        return stopped(p, 22);
+        return Err(SheetRefusal::Malformed(p.line));
     }
-    p
+    Ok(p)
 }

@@ -2,6 +2,7 @@
 // for users; the modules are its steps, and those that are public serve the mended sheet, the printed mesh and the STL too.
 #![tactic(auto)]
 
+pub mod refusal; // why a sheet is refused
 pub mod header; // the header of the mesh
 pub mod heading; // the heading lines are read
 mod body; // the contours and their vertices are read

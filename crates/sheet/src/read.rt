@@ -1,34 +1,37 @@
 // A sheet is read, from its first byte to its last contour.
-ghost use Rattle.sheet.specs.declared.heading.HeadingRead.TheVariants.{Headed};
+ghost use Rattle.std.specs.Prelude.{Ok};
 ghost use Rattle.sheet.specs.Reading.{goes_on, BodyReady, read_bytes, ListsReady, ReadAs};
 
 use crate::body::read_body;
-use crate::heading::{Heading, HeadingRead, read_heading};
+use crate::heading::{Heading, read_heading};
+use crate::refusal::SheetRefusal;
 
-// A sheet: its heading, and how many contours and vertices stand in the lists; or a refusal: its number and its line.
+// A sheet that was read: its heading, and how many contours and vertices stand in the lists.
 #[derive(Clone, Copy)]
-pub enum SheetRead {
-    Taken(Heading, usize, usize),
-    Bad(u64, u64),
+pub struct JobSheet {
+    pub heading: Heading,
+    pub contours: usize,
+    pub vertices: usize,
 }
 
 // The lines behind a heading.
 fn read_contours(
     text: &[u8],
-    x: Heading,
+    heading: Heading,
     lengths: &mut [u32],
     regions: &mut [u16],
     codes: &mut [u8],
     numbers: &mut [u16],
-) -> SheetRead
-    requires { BodyReady text.now x.at lengths.old regions.old codes.old numbers.old }
-    ensures { ReadAs (goes_on text.now (Headed x)) result lengths.new regions.new codes.new numbers.new }
+) -> Result<JobSheet, SheetRefusal>
+    requires { BodyReady text.now heading.at lengths.old regions.old codes.old numbers.old }
+    ensures { ReadAs (goes_on text.now (Ok heading)) result lengths.new regions.new codes.new numbers.new }
 {
-    let p = read_body(text, x.at, lengths, regions, codes, numbers);
-    if p.refusal > 0 {
-        return SheetRead::Bad(p.refusal, p.line);
-    }
-    SheetRead::Taken(x, p.contours, p.vertices)
+    let end = read_body(text, heading.at, lengths, regions, codes, numbers)?;
+    Ok(JobSheet {
+        heading,
+        contours: end.contours,
+        vertices: end.vertices,
+    })
 }
 
 // What a sheet is found to be. Any bytes may be handed in; the lists have room for 32 contours and 96 vertices.
@@ -38,15 +41,13 @@ pub fn read_sheet(
     regions: &mut [u16],
     codes: &mut [u8],
     numbers: &mut [u16],
-) -> SheetRead
+) -> Result<JobSheet, SheetRefusal>
     requires { ListsReady lengths.old regions.old codes.old numbers.old }
     ensures { ReadAs (read_bytes text.now) result lengths.new regions.new codes.new numbers.new }
 {
     if text.len() > 65536 {
-        return SheetRead::Bad(23, 0);
+        return Err(SheetRefusal::TooLong);
     }
-    match read_heading(text) {
-        HeadingRead::Refused(n, k) => SheetRead::Bad(n, k),
-        HeadingRead::Headed(x) => read_contours(text, x, lengths, regions, codes, numbers),
-    }
+    let heading = read_heading(text)?;
+    read_contours(text, heading, lengths, regions, codes, numbers)
 }

@@ -1,33 +1,23 @@
 // The lines of a mesh are printed.
 ghost use Rattle.std.specs.Prelude.{cond};
-ghost use Rattle.rules.specs.Lines.{number_line};
 ghost use Rattle.rules.specs.Sheet.{mm_name, in_name, refused_text, unit_line};
 ghost use Rattle.lines.specs.Print.{Room, Printed};
-ghost use Rattle.sheet.specs.Rows.{top_text, mesh_line_of, polygon_text, vertex_rows, polygon_rows, VerticesReady, PolygonsReady};
+ghost use Rattle.sheet.specs.Refusals.{number_of, line_of};
+ghost use Rattle.sheet.specs.Rows.{line_of_values, top_text, mesh_line_of, polygon_text, vertex_rows, polygon_rows, VerticesReady, PolygonsReady};
 
-use lines::cells::{put_cell, put_cells16, put_cells32, put_signed_cell};
+use crate::refusal::SheetRefusal;
+use lines::cells::{Number, put_cell, put_cells, put_signed_cell};
 use lines::print::put_text;
 use rules::VERTEX_STRIDE;
 use stored::corners::count_corners;
 
-// A line of a name and of numbers of 16 bits.
-pub fn put_line16(out: &mut [u8], at: usize, name: &[u8], ns: &[u16]) -> usize
-    requires { Room out.old (number_line name.now ns.now) at }
-    ensures { Printed (number_line name.now ns.now) out.old out.new at result }
+// A line of a name and of numbers.
+pub fn put_line<T: Number>(out: &mut [u8], at: usize, name: &[u8], ns: &[T]) -> usize
+    requires { Room out.old (line_of_values T.says name.now ns.now) at }
+    ensures { Printed (line_of_values T.says name.now ns.now) out.old out.new at result }
 {
     let a = put_text(out, at, name);
-    let e = put_cells16(out, a, ns);
-    out[e] = b'\n';
-    e + 1
-}
-
-// A line of a name and of numbers of 32 bits.
-pub fn put_line32(out: &mut [u8], at: usize, name: &[u8], ns: &[u32]) -> usize
-    requires { Room out.old (number_line name.now ns.now) at }
-    ensures { Printed (number_line name.now ns.now) out.old out.new at result }
-{
-    let a = put_text(out, at, name);
-    let e = put_cells32(out, a, ns);
+    let e = put_cells(out, a, ns);
     out[e] = b'\n';
     e + 1
 }
@@ -42,6 +32,14 @@ pub fn put_refused(out: &mut [u8], number: u64, line: u64) -> usize
     let e = put_cell(out, b, line);
     out[e] = b'\n';
     e + 1
+}
+
+// The refusal of a sheet.
+pub fn put_sheet_refused(out: &mut [u8], refusal: SheetRefusal) -> usize
+    requires { Room out.old (refused_text (number_of refusal) (line_of refusal)) 0 }
+    ensures { Printed (refused_text (number_of refusal) (line_of refusal)) out.old out.new 0 result }
+{
+    put_refused(out, refusal.number(), refusal.line())
 }
 
 // What the unit is called.
@@ -74,7 +72,7 @@ pub fn put_top(out: &mut [u8], inches: bool, size: u32, height: u32) -> usize
 {
     let a = put_unit(out, inches);
     let sizes = [size, height];
-    put_line32(out, a, b"cell", &sizes)
+    put_line(out, a, b"cell", &sizes)
 }
 
 // How many vertices and polygons there are, and their doubled area.
@@ -98,7 +96,7 @@ pub fn put_vertices(out: &mut [u8], at: usize, k: usize, vertices: &[u16]) -> us
     let mut to = at;
     for i in 0..k {
         let from = i * VERTEX_STRIDE;
-        to = put_line16(out, to, b"v", &vertices[from..from + VERTEX_STRIDE]);
+        to = put_line(out, to, b"v", &vertices[from..from + VERTEX_STRIDE]);
     }
     to
 }
@@ -116,11 +114,11 @@ fn put_polygon(
     ensures { Printed (polygon_text region code corners.now links.now) out.old out.new at result }
 {
     let a = put_text(out, at, b"p");
-    let b = put_cell(out, a, region as u64);
-    let c = put_cell(out, b, code as u64);
-    let e = put_cells16(out, c, corners);
+    let b = put_cell(out, a, u64::from(region));
+    let c = put_cell(out, b, u64::from(code));
+    let e = put_cells(out, c, corners);
     out[e] = b'\n';
-    put_line32(out, e + 1, b"n", links)
+    put_line(out, e + 1, b"n", links)
 }
 
 // The first n polygons, of nvp words each, with their links; used corners only.

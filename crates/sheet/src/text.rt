@@ -4,8 +4,8 @@ ghost use Rattle.rules.specs.Sheet.{text_of};
 ghost use Rattle.lines.specs.Print.{Printed};
 
 use crate::answer::answer_job;
-use crate::read::{SheetRead, read_sheet};
-use crate::rows::put_refused;
+use crate::read::read_sheet;
+use crate::rows::put_sheet_refused;
 
 // What is printed for a sheet: its bytes in, and the text at the beginning of `out`. Any bytes may be handed in. The answer is the
 // text's length.
@@ -18,13 +18,13 @@ pub fn mesh_sheet(text: &[u8], out: &mut [u8; 65536]) -> usize
     let mut codes = [0u8; 32];
     let mut numbers = [0u16; 384];
     match read_sheet(text, &mut lengths, &mut regions, &mut codes, &mut numbers) {
-        SheetRead::Bad(n, k) => put_refused(out, n, k),
-        SheetRead::Taken(x, c, v) => answer_job(
-            x,
-            &lengths[..c],
-            &regions[..c],
-            &codes[..c],
-            &numbers[..v * 4],
+        Err(refusal) => put_sheet_refused(out, refusal),
+        Ok(sheet) => answer_job(
+            sheet.heading,
+            &lengths[..sheet.contours],
+            &regions[..sheet.contours],
+            &codes[..sheet.contours],
+            &numbers[..sheet.vertices * 4],
             out,
         ),
     }

@@ -4,8 +4,8 @@ ghost use Rattle.rules.specs.StlText.{stl_text};
 ghost use Rattle.lines.specs.Print.{Printed};
 
 use crate::answer::carve_job;
-use sheet::read::{SheetRead, read_sheet};
-use sheet::rows::put_refused;
+use sheet::read::read_sheet;
+use sheet::rows::put_sheet_refused;
 
 // What is written for a sheet: its bytes in, and the file, or the refusal's line, at the beginning of `out`. Any bytes may be handed in.
 // The answer is its length.
@@ -18,13 +18,13 @@ pub fn stl_sheet(text: &[u8], out: &mut [u8; 65536]) -> usize
     let mut codes = [0u8; 32];
     let mut numbers = [0u16; 384];
     match read_sheet(text, &mut lengths, &mut regions, &mut codes, &mut numbers) {
-        SheetRead::Bad(n, k) => put_refused(out, n, k),
-        SheetRead::Taken(x, c, v) => carve_job(
-            x,
-            &lengths[..c],
-            &regions[..c],
-            &codes[..c],
-            &numbers[..v * 4],
+        Err(refusal) => put_sheet_refused(out, refusal),
+        Ok(sheet) => carve_job(
+            sheet.heading,
+            &lengths[..sheet.contours],
+            &regions[..sheet.contours],
+            &codes[..sheet.contours],
+            &numbers[..sheet.vertices * 4],
             out,
         ),
     }

@@ -1,32 +1,28 @@
 -- `checksheet::claim::read_mesh` meets its contract: the mesh line, and what is behind it. Assumes nothing.
-use mir.Syntax.{w64}
-use mir.Val.{SFits}
-use mir.Facts.{to_z-of_z}
+use Rattle.lines.specs.Exits.{found_or, refused_or}
 use Rattle.checksheet.proofs.MeshesRead.{mesh_open, mesh_missed, lists_asked, mesh_claimed, mesh_unread}
-use borrow.Author.Rules.{rules}
 use Rattle.checksheet.proofs.claim.read_mesh.Goals as goal
 
 pub returns-then-e-text : goal.returns-then-e-text
 returns-then-e-text c =
     mesh_open c.args.text.now c.args.x c.find-e.ensures.0 c.if-e-text.true _ _ _
 
+pub returns-in_err-mesh : goal.returns-in_err-mesh
+returns-in_err-mesh c =
+    let none = refused_or _ _ _ c.ok_or.ensures.value c.in_err-mesh.was c.from_residual.ensures.1 in
+    rw none.1 (mesh_missed c.args.text.now c.args.x c.find-e.ensures.0 c.if-e-text.false c.mesh_cells.ensures none.0 _ _ _)
+
 pub read_lists-p-requires : goal.read_lists-p-requires
 read_lists-p-requires c =
-    lists_asked c.args.text.now c.args.x c.find-e.ensures.0 c.if-e-text.false c.mesh_cells.ensures c.in-Counted.is
-    c.requires c.row_words-words.ensures
+    lists_asked c.args.text.now c.args.x c.find-e.ensures.0 c.if-e-text.false c.mesh_cells.ensures
+    (found_or _ _ c.ok_or.ensures.value c.in_ok-mesh.was) c.requires c.row_words-words.ensures
 
 pub returns-then-p : goal.returns-then-p
 returns-then-p c =
-    let total-fits : SFits w64 c.in-Counted.total = search rules in
-    mesh_claimed c.args.text.now c.args.x c.find-e.ensures.0 c.if-e-text.false c.mesh_cells.ensures c.in-Counted.is
-    c.row_words-words.ensures c.read_lists-p.ensures (to_z-of_z (total-fits)) c.if-p.true
+    mesh_claimed c.args.text.now c.args.x c.find-e.ensures.0 c.if-e-text.false c.mesh_cells.ensures
+    (found_or _ _ c.ok_or.ensures.value c.in_ok-mesh.was) c.row_words-words.ensures c.read_lists-p.ensures c.if-p.true
 
-pub returns-in-Missing : goal.returns-in-Missing
-returns-in-Missing c =
-    mesh_missed c.args.text.now c.args.x c.find-e.ensures.0 c.if-e-text.false c.mesh_cells.ensures c.in-Missing.is
-    _ _ _
-
-pub returns-else-p : goal.returns-else-p
-returns-else-p c =
-    mesh_unread c.args.text.now c.args.x c.find-e.ensures.0 c.if-e-text.false c.mesh_cells.ensures c.in-Counted.is
-    c.row_words-words.ensures c.read_lists-p.ensures c.if-p.false
+pub returns : goal.returns
+returns c =
+    mesh_unread c.args.text.now c.args.x c.find-e.ensures.0 c.if-e-text.false c.mesh_cells.ensures
+    (found_or _ _ c.ok_or.ensures.value c.in_ok-mesh.was) c.row_words-words.ensures c.read_lists-p.ensures c.if-p.false

@@ -17,24 +17,25 @@ slice_bounds-read_numbers-count c = last_later c.last_cell-last.ensures (sym c.c
 pub slice_bounds-read_numbers-length : goal.slice_bounds-read_numbers-length
 slice_bounds-read_numbers-length c = sym (length-take-le _ _ (omega (arith, c.last_cell-last.ensures.within)))
 
-pub returns-in-Some : goal.returns-in-Some
+pub returns-in_err-counts : goal.returns-in_err-counts
 unfolding mesh_name ascii
-returns-in-Some c =
-    let f : SFits w64 c.in-Some.z = search rules in
-    mesh_counted c.last_cell-last.ensures (sym c.count_cells.ensures ∙ c.if-count_cells-eq4.true) c.read_numbers-counts.ensures
-    c.if-counts.true c.read_signed.ensures c.in-Some.is (to_z-of_z f)
+returns-in_err-counts c =
+    rw c.from_residual.ensures
+    (counts_bad c.last_cell-last.ensures (sym c.count_cells.ensures ∙ c.if-count_cells-eq4.true) c.read_numbers.ensures c.in_err-counts.was)
 
-pub returns-in-None : goal.returns-in-None
+pub returns-in_err-total : goal.returns-in_err-total
 unfolding mesh_name ascii
-returns-in-None c =
-    total_bad c.last_cell-last.ensures (sym c.count_cells.ensures ∙ c.if-count_cells-eq4.true) c.read_numbers-counts.ensures
-    c.if-counts.true c.read_signed.ensures c.in-None.is
+returns-in_err-total c =
+    rw c.from_residual-in_err-total.ensures
+    (total_bad c.last_cell-last.ensures (sym c.count_cells.ensures ∙ c.if-count_cells-eq4.true) c.read_numbers.ensures
+    c.in_ok-counts.was c.read_signed.ensures c.in_err-total.was)
 
-pub returns-else-counts : goal.returns-else-counts
+pub returns-then-count_cells-eq4 : goal.returns-then-count_cells-eq4
 unfolding mesh_name ascii
-returns-else-counts c =
-    counts_bad c.last_cell-last.ensures (sym c.count_cells.ensures ∙ c.if-count_cells-eq4.true) c.read_numbers-counts.ensures
-    c.if-counts.false
+returns-then-count_cells-eq4 c =
+    let f : SFits w64 c.in_ok-total.total = search rules in
+    mesh_counted c.last_cell-last.ensures (sym c.count_cells.ensures ∙ c.if-count_cells-eq4.true) c.read_numbers.ensures
+    c.in_ok-counts.was c.read_signed.ensures c.in_ok-total.was (to_z-of_z f)
 
-pub returns-else-count_cells-eq4 : goal.returns-else-count_cells-eq4
-returns-else-count_cells-eq4 c = other_count _ (λ e. c.if-count_cells-eq4.false (c.count_cells.ensures ∙ e))
+pub returns : goal.returns
+returns c = other_count _ (λ e. c.if-count_cells-eq4.false (c.count_cells.ensures ∙ e))

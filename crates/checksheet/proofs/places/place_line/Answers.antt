@@ -10,34 +10,34 @@ use Rattle.checksheet.proofs.places.place_line.Goals as goal
 pub overflow_cast-vertices : goal.overflow_cast-vertices
 unfolding v_name ascii
 overflow_cast-vertices c =
-    let good_line : PlaceGood c.args.text.now c.args.p.at c.read_line-place.result = good_read _ _ _ _ _ c.read_line-place.ensures c.if-place.true in
+    let good_line : PlaceGood c.args.text.now c.args.p.at c.in-Some.place = good_read _ _ _ _ _ c.read_line.ensures c.in-Some.is in
     record { fits = omega (arith, place_most (good_line)) }
 
-pub overflow_cast-vertices-then-place : goal.overflow_cast-vertices-then-place
+pub overflow_cast-vertices-in-Some : goal.overflow_cast-vertices-in-Some
 unfolding v_name ascii
-overflow_cast-vertices-then-place c =
-    let good_line : PlaceGood c.args.text.now c.args.p.at c.read_line-place.result = good_read _ _ _ _ _ c.read_line-place.ensures c.if-place.true in
+overflow_cast-vertices-in-Some c =
+    let good_line : PlaceGood c.args.text.now c.args.p.at c.in-Some.place = good_read _ _ _ _ _ c.read_line.ensures c.in-Some.is in
     record { fits = omega (arith, place_most (good_line)) }
 
-pub bounds-vertices-k-then-place : goal.bounds-vertices-k-then-place
-bounds-vertices-k-then-place c = simp length-set (omega (arith, c.requires.room))
+pub bounds-vertices-k-in-Some : goal.bounds-vertices-k-in-Some
+bounds-vertices-k-in-Some c = simp length-set (omega (arith, c.requires.room))
 
-pub overflow_cast-vertices-then-place-2 : goal.overflow_cast-vertices-then-place-2
+pub overflow_cast-vertices-in-Some-2 : goal.overflow_cast-vertices-in-Some-2
 unfolding v_name ascii
-overflow_cast-vertices-then-place-2 c =
-    let good_line : PlaceGood c.args.text.now c.args.p.at c.read_line-place.result = good_read _ _ _ _ _ c.read_line-place.ensures c.if-place.true in
+overflow_cast-vertices-in-Some-2 c =
+    let good_line : PlaceGood c.args.text.now c.args.p.at c.in-Some.place = good_read _ _ _ _ _ c.read_line.ensures c.in-Some.is in
     record { fits = omega (arith, place_most (good_line)) }
 
-pub bounds-vertices-k-then-place-2 : goal.bounds-vertices-k-then-place-2
-bounds-vertices-k-then-place-2 c = simp length-set (omega (arith, c.requires.room))
+pub bounds-vertices-k-in-Some-2 : goal.bounds-vertices-k-in-Some-2
+bounds-vertices-k-in-Some-2 c = simp length-set (omega (arith, c.requires.room))
 
-pub returns-then-place : goal.returns-then-place
+pub returns-in-Some : goal.returns-in-Some
 unfolding v_name ascii
-returns-then-place c =
-    let good_line : PlaceGood c.args.text.now c.args.p.at c.read_line-place.result = good_read _ _ _ _ _ c.read_line-place.ensures c.if-place.true in
+returns-in-Some c =
+    let good_line : PlaceGood c.args.text.now c.args.p.at c.in-Some.place = good_read _ _ _ _ _ c.read_line.ensures c.in-Some.is in
     place_put c.requires (good_line)
 
-pub returns : goal.returns
+pub returns-in-None : goal.returns-in-None
 unfolding v_name ascii
-returns c =
-    place_bad c.requires (bad_read _ _ _ _ _ c.read_line-place.ensures c.if-place.false) c.stopped.ensures
+returns-in-None c =
+    place_bad c.requires (bad_read _ _ _ _ _ c.read_line.ensures c.in-None.is) c.stopped.ensures

@@ -1,4 +1,5 @@
 -- `sheet::read::read_sheet` meets its contract: a sheet that is too long, a bad heading, or a good one and what is behind it. Assumes nothing.
+use Rattle.lines.specs.Exits.{passed_on}
 use Rattle.sheet.specs.Texts.{long_read, bad_heading, good_heading, body_ready}
 use Rattle.sheet.proofs.read.read_sheet.Goals as goal
 
@@ -7,14 +8,14 @@ returns-then-text-gt65536 c = long_read c.args.text.now _ _ _ _ c.if-text-gt6553
 
 pub read_contours-requires : goal.read_contours-requires
 read_contours-requires c =
-    body_ready c.args.text.now c.read_heading.result c.in-Headed.x c.in-Headed.is c.read_heading.ensures.1 c.if-text-gt65536.false c.requires
+    body_ready c.args.text.now c.read_heading.result c.in_ok-heading.heading c.in_ok-heading.was c.read_heading.ensures.1 c.if-text-gt65536.false c.requires
 
-pub returns-in-Refused : goal.returns-in-Refused
-returns-in-Refused c =
-    bad_heading c.args.text.now _ _ _ _ c.if-text-gt65536.false c.read_heading.result c.read_heading.ensures.0 c.read_heading.ensures.1
-    c.in-Refused.n c.in-Refused.k c.in-Refused.is
+pub returns-in_err-heading : goal.returns-in_err-heading
+returns-in_err-heading c =
+    rw (passed_on _ c.from_residual.ensures.1)
+    (bad_heading c.args.text.now _ _ _ _ c.if-text-gt65536.false c.read_heading.result c.read_heading.ensures.0 c.read_heading.ensures.1 _ c.in_err-heading.was)
 
-pub returns-in-Headed : goal.returns-in-Headed
-returns-in-Headed c =
+pub returns : goal.returns
+returns c =
     good_heading c.args.text.now _ _ _ _ c.if-text-gt65536.false c.read_heading.result c.read_heading.ensures.0 c.read_heading.ensures.1
-    c.in-Headed.x c.read_contours.result c.in-Headed.is c.read_contours.ensures
+    c.in_ok-heading.heading c.read_contours.result c.in_ok-heading.was c.read_contours.ensures

@@ -1,0 +1,20 @@
+-- `sheet::refusal::SheetRefusal::number` meets its contract: the number is the rules'. Assumes nothing.
+use mathlib.Core.Path.{refl}
+use Rattle.sheet.specs.Refusals.{number_of}
+use Rattle.sheet.proofs.refusal.SheetRefusal.number.Goals as goal
+
+pub returns-in-NoUnit : goal.returns-in-NoUnit
+unfolding number_of
+returns-in-NoUnit c = rw c.in-NoUnit.is refl
+
+pub returns-in-Malformed : goal.returns-in-Malformed
+unfolding number_of
+returns-in-Malformed c = rw c.in-Malformed.is refl
+
+pub returns-in-TooLong : goal.returns-in-TooLong
+unfolding number_of
+returns-in-TooLong c = rw c.in-TooLong.is refl
+
+pub returns-in-TooMany : goal.returns-in-TooMany
+unfolding number_of
+returns-in-TooMany c = rw c.in-TooMany.is refl
