@@ -15,7 +15,7 @@ use Rattle.records.specs.Values.{corners_from, Stands, CornerOf}
 use Rattle.records.specs.Polygons.{in_view, polygon_at_lem, count_small}
 
 module _ {w : List ℕ} {at : ℕ} (s : Stands w at) where
-  from_view : corners_from w at ≡ view w (at + 3) (get_or w at 0)
+  pub from_view : corners_from w at ≡ view w (at + 3) (get_or w at 0)
   unfolding corners_from
   from_view = ap (λ (p : Polygon). p.corners) (in_view w at s.fits (get_or w at 0) (get_or w (at + 1) 0) (get_or w (at + 2) 0) refl s.most refl refl)
 

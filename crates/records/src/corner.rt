@@ -43,3 +43,12 @@ pub fn place_from(work: &[u32], vo: usize, nv: usize, at: usize, i: usize) -> Po
 {
     place_at(work, vo, nv, corner_from(work, at, i) as usize)
 }
+
+// All its corners.
+pub fn corners_from(work: &[u32], at: usize) -> &[u32]
+    requires { Stands work.now at }
+    ensures { result.now ≡ corners_from work.now at }
+{
+    let first = at + CORNERS_AT;
+    &work[first..first + work[at] as usize]
+}

@@ -1,15 +1,15 @@
 -- One polygon, and a vertex that goes: whether the polygon holds it, and the sides that it gives. Assumes nothing.
 use mathlib.Core.Path.{◌≡◌, refl, sym, ap, ◌∙◌}
-use mathlib.Core.Bool.{true, false}
+use mathlib.Core.Bool.{Bool, true, false, cond, ◌||◌}
 use mathlib.Core.Logic.{◌≢◌}
 use mathlib.Core.List.{List, [], ◌∷◌, ◌++◌, append_assoc, append-nil, map}
 use Prim.Native.Nat.{ℕ, ◌+◌, ◌*◌, ◌≤◌, ◌<◌}
 use native.Mathlib.Omega.{arith}
-use native.Mathlib.Numerals.{add-one}
-use borrow.Author.Tests.{eq-eqb, ne_eqb, lt-ltb, le-ltb}
-use lib.Dec.{ltb}
-use lib.ListN.{length, drop, get_or, length-append, length-map, drop_of_length-le}
-use lib.Seq.{drop-cons}
+use borrow.Author.Tests.{eq-eqb, ne_eqb, lt-ltb}
+use lib.Dec.{ltb, eqb}
+use Rattle.std.specs.List.{list_any}
+use Rattle.std.proofs.Common.{zero-add}
+use lib.ListN.{length, get_or, length-append, length-map}
 use Rattle.mem.specs.Slice.{splice, splice_nil, splice_append}
 use Rattle.mem.specs.Packed.{packed}
 use Rattle.mem.specs.Loops.{over, over_turn, over_end}
@@ -27,46 +27,22 @@ use Rattle.records.specs.Fixed.{side_fixed, fixed_append, fixed_one, fixed_lengt
 use Rattle.records.specs.declared.polygon.Poly.{Poly}
 use Rattle.trails.specs.Sides.{dropped_words, Laid}
 
--- ---- whether it holds the vertex: as often as its corners from i on
+-- ---- whether it holds the vertex: whether it is any of its corners
 
-count_hit : (v : ℕ) (l : List ℕ) (i : ℕ) → i < length l → get_or l i 0 ≡ v → count v (drop i l) ≡ 1 + count v (drop (i + 1) l)
+any_count : (v : ℕ) (l : List ℕ) → list_any (λ x. eqb x v) l ≡ ltb 0 (count v l)
 unfolding count
-count_hit v l i h e = rw (drop-cons l i 0 h, eq-eqb (get_or l i 0) v e, add-one i) refl
+any_count v [] = refl
+any_count v (x ∷ l) = go (any_count v l) (eqb x v)
+  where
+    go : list_any (λ y. eqb y v) l ≡ ltb 0 (count v l) → (t : Bool) → (t || list_any (λ y. eqb y v) l) ≡ ltb 0 (cond t 1 0 + count v l)
+    go rest true = sym (lt-ltb 0 (1 + count v l) (omega arith))
+    go rest false = rest ∙ ap (ltb 0) (sym (zero-add (count v l)))
 
-count_miss : (v : ℕ) (l : List ℕ) (i : ℕ) → i < length l → get_or l i 0 ≢ v → count v (drop i l) ≡ count v (drop (i + 1) l)
-unfolding count
-count_miss v l i h n = rw (drop-cons l i 0 h, ne_eqb (get_or l i 0) v n, add-one i) (omega arith)
-
-count_end : (v : ℕ) (l : List ℕ) (i : ℕ) → length l ≤ i → count v (drop i l) ≡ 0
-unfolding count
-count_end v l i h = rw (drop_of_length-le l {i = i} h) refl
-
-pub record Unmet (rem : ℕ) (cs : List ℕ) (i : ℕ) : Type 0 where
-  pub same : count rem cs ≡ count rem (drop i cs)
-
-pub unmet_none : (rem : ℕ) (cs : List ℕ) → Unmet rem cs 0
-unmet_none rem cs = record { same = refl }
-
-module _ {rem : ℕ} {cs : List ℕ} {i : ℕ} (u : Unmet rem cs i) where
-  pub unmet_more : {a : ℕ} → i < length cs → a ≡ get_or cs i 0 → a ≢ rem → Unmet rem cs (i + 1)
-  unmet_more k e n = record { same = u.same ∙ count_miss rem cs i k (rw e at n) }
-
-  met : {a : ℕ} → i < length cs → a ≡ get_or cs i 0 → a ≡ rem → true ≡ ltb 0 (count rem cs)
-  met k e q = sym (lt-ltb 0 (count rem cs) (omega (arith, u.same, count_hit rem cs i k (sym e ∙ q))))
-
-  unmet_all : length cs ≤ i → false ≡ ltb 0 (count rem cs)
-  unmet_all k = sym (le-ltb 0 (count rem cs) (omega (arith, u.same, count_end rem cs i k)))
-
--- polygon i of the np at o, its corners being read in place
-module _ (w : List ℕ) (o np i : ℕ) (fits : o + np * polygon_size ≤ length w) (h : i < np) {rem j : ℕ} (u : Unmet rem (corners_from w (o + i * polygon_size)) j) where
-  pub held_one : {a : ℕ} → j < length (corners_from w (o + i * polygon_size)) → a ≡ get_or (corners_from w (o + i * polygon_size)) j 0 → a ≡ rem
-      → true ≡ ltb 0 (holds rem (polygon_at (polygons_at w o np) i))
-  unfolding holds
-  held_one k e q = rw (← (corners_at_lem w o np i fits h)) (met u k e q)
-
-  pub held_none : length (corners_from w (o + i * polygon_size)) ≤ j → false ≡ ltb 0 (holds rem (polygon_at (polygons_at w o np) i))
-  unfolding holds
-  held_none k = rw (← (corners_at_lem w o np i fits h)) (unmet_all u k)
+-- polygon i of the np at o, its corners being looked through in place
+pub any_held : (w : List ℕ) (o np i : ℕ) → o + np * polygon_size ≤ length w → i < np → (rem : ℕ)
+    → list_any (λ x. eqb x rem) (corners_from w (o + i * polygon_size)) ≡ ltb 0 (holds rem (polygon_at (polygons_at w o np) i))
+unfolding holds
+any_held w o np i fits h rem = rw (corners_at_lem w o np i fits h) (any_count rem (polygon_at (polygons_at w o np) i).corners)
 
 -- ---- sides in the numbers that hold once the vertex has gone
 

@@ -8,7 +8,7 @@ ghost use Rattle.records.specs.Values.{polygon_of, On};
 ghost use Rattle.trails.specs.Sides.{Laid, CollectReady, Collected};
 
 use plane::ring::prev;
-use records::corner::{corner_from, count_from};
+use records::corner::corners_from;
 use records::polygon::{POLYGON_SIZE, Poly, corner, load_at};
 use records::side::{SIDE_SIZE, store_side};
 use rules::Side;
@@ -18,14 +18,7 @@ pub fn is_held(work: &[u32], o: usize, np: usize, i: usize, rem: u32) -> bool
     requires { (o + np * polygon_size ≤ length work.now) × (i < np) × Small (polygon_at (polygons_at work.now o np) i) }
     ensures { result ≡ ltb 0 (holds rem (polygon_at (polygons_at work.now o np) i)) }
 {
-    let at = o + i * POLYGON_SIZE;
-    let n = count_from(work, at);
-    for j in 0..n {
-        if corner_from(work, at, j) == rem {
-            return true;
-        }
-    }
-    false
+    corners_from(work, o + i * POLYGON_SIZE).contains(&rem)
 }
 
 // A vertex's number once the vertex `rem` has gone.
@@ -42,10 +35,7 @@ fn push_side(work: &mut [u32], at: usize, p: Poly, j: usize, rem: u32) -> usize
 {
     let a = corner(p, prev(j, p.n));
     let b = corner(p, j);
-    if a == rem {
-        return 0;
-    }
-    if b == rem {
+    if a == rem || b == rem {
         return 0;
     }
     let s = Side {
@@ -63,7 +53,7 @@ fn push_sides(work: &mut [u32], at: usize, p: Poly, rem: u32) -> usize
     requires { (p.n ≤ most_corners) × (at + length (untouched rem (polygon_of p)) * side_size ≤ length work.old) }
     ensures { Laid rem (untouched rem (polygon_of p)) work.old work.new at result }
 {
-    let mut k: usize = 0;
+    let mut k = 0;
     for j in 0..p.n {
         k += push_side(work, at + k * SIDE_SIZE, p, j, rem);
     }
@@ -77,7 +67,7 @@ pub fn collect_sides(work: &mut [u32], o: usize, np: usize, q: usize, rem: u32) 
     requires { CollectReady work.old o np q rem }
     ensures { Collected work.old work.new o np q rem result }
 {
-    let mut n: usize = 0;
+    let mut n = 0;
     let mut m = np;
     let mut i = 0;
     let mut k = 0;

@@ -10,7 +10,7 @@ use records::side::{SIDE_SIZE, load_side, store_side};
 use rules::{ChainPoint, Side};
 
 // Side `at` is tried next, of the `left` sides not yet used; the chain has `points` points, from the word `first` on.
-#[derive(Clone, Copy)]
+#[derive(Clone, Copy, Debug, PartialEq, Eq)]
 pub struct Trail {
     pub at: usize,
     pub left: usize,
@@ -42,10 +42,10 @@ fn link_front(part: &mut [u32], t: Trail, s: Side) -> Trail
     use_side(part, t.left, t.at);
     store_point(part, first, c);
     Trail {
-        at: t.at,
         left: t.left - 1,
-        first: first,
+        first,
         points: t.points + 1,
+        ..t
     }
 }
 
@@ -63,10 +63,9 @@ fn link_back(part: &mut [u32], t: Trail, s: Side) -> Trail
     use_side(part, t.left, t.at);
     store_point(part, behind, c);
     Trail {
-        at: t.at,
         left: t.left - 1,
-        first: t.first,
         points: t.points + 1,
+        ..t
     }
 }
 
@@ -81,15 +80,10 @@ pub fn try_side(part: &mut [u32], t: Trail) -> Trail
     let behind = s.start == last.vertex;
     let in_front = s.end == first.vertex;
     if in_front {
-        return link_front(part, t, s);
-    }
-    if behind {
-        return link_back(part, t, s);
-    }
-    Trail {
-        at: t.at + 1,
-        left: t.left,
-        first: t.first,
-        points: t.points,
+        link_front(part, t, s)
+    } else if behind {
+        link_back(part, t, s)
+    } else {
+        Trail { at: t.at + 1, ..t }
     }
 }

@@ -12,7 +12,7 @@ use words::fill::fill;
 use words::moves::move_down;
 
 // How many sides a walk left, and how many points its chain has.
-#[derive(Clone, Copy)]
+#[derive(Clone, Copy, Debug, PartialEq, Eq)]
 pub struct Walked {
     pub left: usize,
     pub points: usize,
@@ -34,7 +34,7 @@ fn start_walk(part: &mut [u32], n: usize) -> Trail
     Trail {
         at: 0,
         left: n,
-        first: first,
+        first,
         points: 1,
     }
 }
@@ -44,12 +44,7 @@ fn walk_once(part: &mut [u32], t: Trail) -> Trail
     requires { Room part.old t }
     ensures { Came (walk_once (walk_in part.old t)) part.new result }
 {
-    let mut u = Trail {
-        at: 0,
-        left: t.left,
-        first: t.first,
-        points: t.points,
-    };
+    let mut u = Trail { at: 0, ..t };
     while u.at < u.left {
         u = try_side(&mut *part, u);
     }

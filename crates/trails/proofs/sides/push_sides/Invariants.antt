@@ -1,5 +1,4 @@
 -- `trails::sides::push_sides` meets its contract: the sides that are written and those to come are all that the polygon gives. Assumes nothing.
-use Prim.Native.Nat.{◌-◌}
 use Rattle.trails.proofs.Given.{Giving}
 use Rattle.trails.proofs.sides.push_sides.Given as goal
 

@@ -9,8 +9,8 @@ returns-then-behind c =
     tried_back c.args.part.now c.args.t c.load_side-s.ensures c.load_point-first.ensures c.load_point-last.ensures
     refl (sym (ne_eqb _ _ c.if-in_front.false)) refl (sym (eq-eqb _ _ c.if-behind.true)) c.link_back.ensures
 
-pub returns : goal.returns
-returns c =
+pub returns-else-behind : goal.returns-else-behind
+returns-else-behind c =
     tried_past c.args.part.now c.args.t c.load_side-s.ensures c.load_point-first.ensures c.load_point-last.ensures
     refl (sym (ne_eqb _ _ c.if-in_front.false)) refl (sym (ne_eqb _ _ c.if-behind.false)) c.requires
 
