@@ -1,5 +1,5 @@
 use native.Mathlib.Omega.{arith}
-use Rattle.links.proofs.Marks.{marking_begin, marking_small, marking_fits, marking_hand, marking_more, marking_end, unmarked}
+use Rattle.links.proofs.Marks.{marking_begin, marking_small, marking_hand, marking_more, marking_end, unmarked}
 use Rattle.links.proofs.portals.mark_portals.Goals as goal
 
 pub returns-then-border-eq0 : goal.returns-then-border-eq0
@@ -18,26 +18,6 @@ load_at-p-requires c =
       marking_small c.args.work.now c.args.vo c.args.nv c.args.o c.args.np
           c.args.lo c.args.w c.args.h c.requires _ g c.loop-i-test.true,
     )
-
-pub overflow_mul-i : goal.overflow_mul-i
-overflow_mul-i c =
-    record {
-      fits = omega (
-        arith,
-        marking_fits c.args.work.now c.args.vo c.args.nv c.args.o c.args.np c.args.lo c.args.w c.args.h c.requires _
-            c.loop-i.invariant c.loop-i-test.true,
-      );
-    }
-
-pub overflow_add-lo : goal.overflow_add-lo
-overflow_add-lo c =
-    record {
-      fits = omega (
-        arith,
-        marking_fits c.args.work.now c.args.vo c.args.nv c.args.o c.args.np c.args.lo c.args.w c.args.h c.requires _
-            c.loop-i.invariant c.loop-i-test.true,
-      );
-    }
 
 pub mark_polygon-requires : goal.mark_polygon-requires
 mark_polygon-requires c =
