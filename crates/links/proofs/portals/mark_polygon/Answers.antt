@@ -7,22 +7,18 @@ use Rattle.links.proofs.Marks.{still_in_hand, portal_same, all_sides}
 use borrow.Author.Rules.{rules}
 use Rattle.links.proofs.portals.mark_polygon.Goals as goal
 
--- src/portals.rt:86:5
 pub loop-j-init : goal.loop-j-init
 loop-j-init c = filled_none _ _ _ _
 
--- src/portals.rt:87:24
 pub portal_at-requires : goal.portal_at-requires
 portal_at-requires c =
     (still_in_hand c.requires c.args.g.w c.args.g.h c.loop-j.invariant, record { below = c.loop-j-test.true; most = c.requires.most })
 
--- src/portals.rt:86:5
 pub loop-j-preserved : goal.loop-j-preserved
 loop-j-preserved c =
     filled_more c.loop-j.invariant _ _ refl (portal_same c.requires c.args.g.w c.args.g.h c.loop-j.invariant c.loop-j-test.true c.portal_at.ensures)
     c.loop-j-test.true
 
--- src/portals.rt:81:1
 pub returns : goal.returns
 returns c =
     let long_p : length c.args.p.corners ≡ most_corners = search rules in

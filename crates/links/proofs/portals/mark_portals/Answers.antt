@@ -1,18 +1,15 @@
 use native.Mathlib.Omega.{arith}
-use Rattle.links.proofs.Marks.{marking_begin, marking_small, marking_fits, marking_hand, marking_more, marking_end, unmarked}
+use Rattle.links.proofs.Marks.{marking_begin, marking_small, marking_hand, marking_more, marking_end, unmarked}
 use Rattle.links.proofs.portals.mark_portals.Goals as goal
 
--- src/portals.rt:108:9
 pub returns-then-border-eq0 : goal.returns-then-border-eq0
 returns-then-border-eq0 c =
     unmarked c.args.work.now c.args.vo c.args.nv c.args.o c.args.np c.args.lo c.args.w c.args.h c.requires c.args.border c.if-border-eq0.true
 
--- src/portals.rt:111:5
 pub loop-i-init : goal.loop-i-init
 loop-i-init c =
     marking_begin c.args.work.now c.args.vo c.args.nv c.args.o c.args.np c.args.lo c.args.w c.args.h c.requires
 
--- src/portals.rt:112:13
 pub load_at-p-requires : goal.load_at-p-requires
 load_at-p-requires c =
     let g = c.loop-i.invariant in (
@@ -22,41 +19,16 @@ load_at-p-requires c =
           c.args.lo c.args.w c.args.h c.requires _ g c.loop-i-test.true,
     )
 
--- src/portals.rt:113:44
-pub overflow_mul-i : goal.overflow_mul-i
-overflow_mul-i c =
-    record {
-      fits = omega (
-        arith,
-        marking_fits c.args.work.now c.args.vo c.args.nv c.args.o c.args.np c.args.lo c.args.w c.args.h c.requires _
-            c.loop-i.invariant c.loop-i-test.true,
-      );
-    }
-
--- src/portals.rt:113:39
-pub overflow_add-lo : goal.overflow_add-lo
-overflow_add-lo c =
-    record {
-      fits = omega (
-        arith,
-        marking_fits c.args.work.now c.args.vo c.args.nv c.args.o c.args.np c.args.lo c.args.w c.args.h c.requires _
-            c.loop-i.invariant c.loop-i-test.true,
-      );
-    }
-
--- src/portals.rt:113:9
 pub mark_polygon-requires : goal.mark_polygon-requires
 mark_polygon-requires c =
     marking_hand c.args.work.now c.args.vo c.args.nv c.args.o c.args.np c.args.lo c.args.w c.args.h c.requires _ c.loop-i.invariant c.loop-i-test.true
     c.load_at-p.ensures
 
--- src/portals.rt:111:5
 pub loop-i-preserved : goal.loop-i-preserved
 loop-i-preserved c =
     marking_more c.args.work.now c.args.vo c.args.nv c.args.o c.args.np c.args.lo c.args.w c.args.h c.requires _ c.loop-i.invariant c.loop-i-test.true
     c.load_at-p.ensures c.mark_polygon.ensures
 
--- src/portals.rt:93:1
 pub returns : goal.returns
 returns c =
     marking_end c.args.work.now c.args.vo c.args.nv c.args.o c.args.np c.args.lo c.args.w c.args.h c.requires _ c.loop-i.invariant c.args.border

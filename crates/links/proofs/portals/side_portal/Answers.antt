@@ -6,12 +6,10 @@ use lib.ListN.{length}
 use Rattle.records.specs.Layout.{most_corners}
 use Rattle.links.proofs.portals.side_portal.Goals as goal
 
--- src/portals.rt:55:9
 pub place_of-b-requires : goal.place_of-b-requires
 place_of-b-requires c =
     (c.requires.0, c.requires.1, on_next c.args.p (search rules) c.args.j c.requires.2 _ c.next.ensures)
 
--- src/portals.rt:50:1
 pub returns : goal.returns
 returns c =
     let long_p : length c.args.p.corners ≡ most_corners = search rules in

@@ -8,19 +8,12 @@ use Rattle.outputs.proofs.Words.{corners_row}
 use borrow.Author.Rules.{rules}
 use Rattle.outputs.proofs.rows.put_corners.Goals as goal
 
--- src/rows.rt:22:5
 pub loop-k-init : goal.loop-k-init
 loop-k-init c = filled_none _ _ _ _
 
--- src/rows.rt:23:23
-pub overflow_cast-out : goal.overflow_cast-out
-overflow_cast-out c = record { fits = c.requires.narrow _ }
-
--- src/rows.rt:22:5
 pub loop-k-preserved : goal.loop-k-preserved
 loop-k-preserved c = filled_more c.loop-k.invariant _ _ (omega arith) refl (omega arith)
 
--- src/rows.rt:17:1
 pub returns : goal.returns
 returns c =
     let long_p : length c.args.p.corners ≡ most_corners = search rules in

@@ -20,8 +20,8 @@ loop-i-preserved c = record {
   codes = filled_more c.loop-i.invariant.codes _ _ (omega arith) (code_is _ _ _ _ c.loop-i-test.true) c.loop-i-test.true;
 }
 
-pub returns : goal.returns
-returns c = record {
-  regions = filled_all c.loop-i.invariant.regions c.loop-i-test.false ∙ ap (splice c.args.regions.now 0) (each_polygon (λ p. p.region) _ _ _);
-  codes = filled_all c.loop-i.invariant.codes c.loop-i-test.false ∙ ap (splice c.args.codes.now 0) (each_polygon (λ p. p.code) _ _ _);
-}
+pub returns-clause-regions : goal.returns-clause-regions
+returns-clause-regions c = filled_all c.loop-i.invariant.regions c.loop-i-test.false ∙ ap (splice c.args.regions.now 0) (each_polygon (λ p. p.region) _ _ _)
+
+pub returns-clause-codes : goal.returns-clause-codes
+returns-clause-codes c = filled_all c.loop-i.invariant.codes c.loop-i-test.false ∙ ap (splice c.args.codes.now 0) (each_polygon (λ p. p.code) _ _ _)

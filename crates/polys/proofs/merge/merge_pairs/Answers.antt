@@ -6,12 +6,6 @@ use Rattle.polys.proofs.merge.merge_pairs.Goals as goal
 pub loop-f-init : goal.loop-f-init
 loop-f-init g c = going_begin c.args.f c.requires.0.rows c.requires.1 c.requires.0
 
-pub best-m-requires : goal.best-m-requires
-best-m-requires g c = c.loop-f.invariant.kept
-
-pub shape_of-work-then-m-eq0 : goal.shape_of-work-then-m-eq0
-shape_of-work-then-m-eq0 g c = c.loop-f.invariant.size
-
 pub returns-then-m-eq0 : goal.returns-then-m-eq0
 returns-then-m-eq0 g c =
     going_end c.args.f c.requires.0.rows c.requires.1 c.loop-f.invariant _ c.best-m.ensures c.requires.2 (search rules)

@@ -1,21 +1,15 @@
 -- `polys::value::turns_left` meets its contract: the three places are those of the definition. Assumes nothing.
 use mathlib.Core.Path.{◌∙◌}
 use Rattle.records.specs.Corners.{few_from}
-use Rattle.polys.proofs.Values.{round_on, left_made}
+use Rattle.polys.proofs.Values.{left_made}
 use borrow.Author.Rules.{rules}
 use Rattle.polys.proofs.value.turns_left.Goals as goal
 
 pub overflow_add-i : goal.overflow_add-i
 overflow_add-i c = let h = few_from c.requires.a_on.stands in search rules
 
-pub place_from-a-requires : goal.place_from-a-requires
-place_from-a-requires c = (c.requires.placed, c.requires.a_in, round_on _ _ c.requires.a_on c.count_from-na.ensures)
-
 pub overflow_add-j : goal.overflow_add-j
 overflow_add-j c = let h = few_from c.requires.b_on.stands in search rules
-
-pub place_from-c-requires : goal.place_from-c-requires
-place_from-c-requires c = (c.requires.placed, c.requires.b_in, round_on _ _ c.requires.b_on c.count_from-nb.ensures)
 
 pub returns : goal.returns
 returns c =

@@ -6,30 +6,25 @@ use Rattle.links.proofs.Rounds.{end_in, found_in, joined, unjoined, passed}
 use borrow.Author.Rules.{rules}
 use Rattle.links.proofs.sides.JoiningStep.take.Goals as goal
 
--- src/sides.rt:112:15
 pub find_free-requires : goal.find_free-requires
 find_free-requires c = (c.requires.0.now, end_in c.requires.0 (search rules) c.args.j c.requires.2 c.side_end-b.ensures)
 
--- src/sides.rt:114:17
 pub join_edge-requires : goal.join_edge-requires
 join_edge-requires c =
     let long_p : length c.args.p.corners ≡ most_corners = search rules in
     (c.requires.0.now, found_in c.requires.0 (long_p) c.args.j c.requires.2 c.corner-a.ensures c.side_end-b.ensures (rw c.in-Some.is at c.find_free.ensures))
 
--- src/sides.rt:115:17
 pub returns-in-Some : goal.returns-in-Some
 returns-in-Some c =
     let long_p : length c.args.p.corners ≡ most_corners = search rules in
     joined c.requires.0 (long_p) c.args.j c.requires.2 c.corner-a.ensures c.side_end-b.ensures c.if-b-a.true (rw c.in-Some.is at c.find_free.ensures)
     c.join_edge.ensures
 
--- src/sides.rt:118:17
 pub returns-in_default : goal.returns-in_default
 returns-in_default c =
     let long_p : length c.args.p.corners ≡ most_corners = search rules in
     unjoined c.requires.0 (long_p) c.args.j c.requires.2 c.corner-a.ensures c.side_end-b.ensures c.if-b-a.true (rw c.in_default.is at c.find_free.ensures)
 
--- src/sides.rt:97:1
 pub returns-else-b-a : goal.returns-else-b-a
 returns-else-b-a c =
     let long_p : length c.args.p.corners ≡ most_corners = search rules in

@@ -6,17 +6,14 @@ use Rattle.links.proofs.Rounds.{start_in, recorded, unrecorded}
 use borrow.Author.Rules.{rules}
 use Rattle.links.proofs.sides.RecordingStep.take.Goals as goal
 
--- src/sides.rt:47:9
 pub put_edge-requires : goal.put_edge-requires
 put_edge-requires c = (c.requires.0.now, c.requires.1, start_in c.requires.0 (search rules) c.args.j c.requires.2 c.corner-a.ensures)
 
--- src/sides.rt:48:9
 pub returns-then-a-b : goal.returns-then-a-b
 returns-then-a-b c =
     let long_p : length c.args.p.corners ≡ most_corners = search rules in
     recorded c.requires.0 (long_p) c.args.j c.requires.2 c.corner-a.ensures c.side_end-b.ensures c.if-a-b.true c.put_edge.ensures
 
--- src/sides.rt:24:1
 pub returns : goal.returns
 returns c =
     let long_p : length c.args.p.corners ≡ most_corners = search rules in
