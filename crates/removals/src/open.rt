@@ -31,7 +31,7 @@ pub fn open_hole(work: &mut [u32], s: Site, n: Counts, rem: u32) -> Hole
     let walked = walk_sides(work, s.scratch, e, sides);
     let points = close_hole(work, s.scratch, walked.points);
     Hole {
-        left: left,
-        points: points,
+        left,
+        points,
     }
 }

@@ -9,10 +9,10 @@ unfolding mend_words
 returns-in-Mended c =
     reply_words c.in-Mended.lost c.in-Mended.kept c.in-Mended.is refl c.put_three.ensures
 
-pub returns-in-None : goal.returns-in-None
+pub returns-in-NotWhole : goal.returns-in-NotWhole
 unfolding mend_words
-returns-in-None c =
-    reply_words 0 0 c.in-None.is refl c.put_three-in-None.ensures
+returns-in-NotWhole c =
+    reply_words 0 0 c.in-NotWhole.is refl c.put_three-in-NotWhole.ensures
 
 pub returns-in-LengthsDisagree : goal.returns-in-LengthsDisagree
 unfolding mend_words

@@ -7,9 +7,9 @@ pub returns-in-Mended : goal.returns-in-Mended
 unfolding mend_words
 returns-in-Mended c = rw c.in-Mended.is refl
 
-pub returns-in-None : goal.returns-in-None
+pub returns-in-NotWhole : goal.returns-in-NotWhole
 unfolding mend_words
-returns-in-None c = rw c.in-None.is refl
+returns-in-NotWhole c = rw c.in-NotWhole.is refl
 
 pub returns-in-LengthsDisagree : goal.returns-in-LengthsDisagree
 unfolding mend_words
