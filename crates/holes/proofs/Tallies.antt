@@ -1,7 +1,7 @@
 -- How often a word stands in a list, and how many words stand there once, as counts of the words that pass a test. Assumes nothing.
 use Rattle.std.specs.Prelude.{◌≡◌, List, [], ◌∷◌, ℕ, zero, suc, ◌+◌, ◌-◌, eqb, cond, length, get_or, count_by, sum_by}
 use Rattle.std.proofs.Math.Path.{refl}
-use Rattle.std.proofs.Common.{sym, ap, ◌∙◌, arith}
+use Rattle.std.proofs.Common.{sym, ap, arith}
 use Rattle.std.proofs.lemmas.List.Recursion.{is_sum_by}
 use Rattle.mem.specs.Loops.{over, run}
 use Rattle.rules.specs.Lists.{count}
