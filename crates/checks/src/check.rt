@@ -21,7 +21,12 @@ fn check_nvp(nvp: u32) -> Result<(), Refusal>
 }
 
 // 2: the lists don't agree in count, or there are over 65,535 contours.
-fn check_counts(lengths: &[u32], regions: &[u16], codes: &[u8], numbers: &[u16]) -> Result<(), Refusal>
+fn check_counts(
+    lengths: &[u32],
+    regions: &[u16],
+    codes: &[u8],
+    numbers: &[u16],
+) -> Result<(), Refusal>
     ensures { (nvp w h border : ℕ) → result ≡ verdict_of (check_counts (job_of nvp w h border lengths.now regions.now codes.now numbers.now)) }
 {
     if counts_agree(lengths, regions, codes, numbers) {

@@ -9,3 +9,5 @@ pub mod Clears
 pub mod Fills
 -- a hole filled
 pub mod Patches
+-- counts of words
+pub mod Tallies

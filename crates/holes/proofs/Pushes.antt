@@ -1,17 +1,16 @@
 -- Counts, the neighbours of a vertex, and lists that are written piece by piece. Assumes nothing.
 use mathlib.Core.Path.{◌≡◌, refl, sym, ap, ◌∙◌}
-use mathlib.Core.Bool.{Bool, true, false, true≢false, ◌&&◌, cond}
+use mathlib.Core.Bool.{Bool, true, false, true≢false, ◌&&◌}
 use mathlib.Core.List.{List, [], ◌∷◌, ◌++◌, append_assoc, append-nil}
 use Prim.Native.Nat.{ℕ, ◌+◌, ◌*◌, ◌≤◌, ◌<◌}
 use native.Mathlib.Omega.{arith}
 use borrow.Author.Tests.{eq-eqb, ne_eqb, lt-leb, le-leb, ltb-false}
-use lib.Dec.{eqb, leb, ltb}
-use lib.ListN.{length, take, get_or, replicate, length-append}
-use Rattle.mem.specs.Slice.{view, splice, splice_nil, splice_append, length_splice, take_snoc, view_same, blank_again}
+use lib.Dec.{leb, ltb}
+use lib.ListN.{length, get_or, replicate, length-append}
+use Rattle.mem.specs.Slice.{view, splice, splice_nil, splice_append, length_splice, view_same, blank_again}
 use Rattle.mem.specs.Loops.{over, over_turn, over_end, Left, turn, next, end}
 use Rattle.mem.specs.Tab.{blocks_after}
 use Rattle.mem.specs.Packed.{every_at}
-use Rattle.rules.specs.Lists.{count}
 use Rattle.rules.specs.Mesh.{Polygon, no_polygon, polygon_at, side_start, side_end}
 use Rattle.rules.specs.Removal.{holds, held_once, other_end, neighbours_in, neighbours, met_once}
 use Rattle.laws.proofs.Around.{polygon_few}
@@ -21,35 +20,6 @@ use Rattle.records.specs.Polygons.{loaded_of, loaded_corners, length_corners, le
 use Rattle.records.specs.declared.polygon.Poly.{Poly}
 use Rattle.holes.specs.declared.test.Met.{Met}
 use Rattle.holes.specs.Verdict.{Wrote, Tested, PushReady, Pushed, few_open}
-
--- ---- how often a word stands in the first words of a list
-
-count_append : (v : ℕ) (xs ys : List ℕ) → count v (xs ++ ys) ≡ count v xs + count v ys
-unfolding count
-count_append v [] ys = omega arith
-count_append v (x ∷ xs) ys = rw (count_append v xs ys) (omega arith)
-
-module _ (v : ℕ) (l : List ℕ) (i : ℕ) (h : i < length l) where
-  pub count_hit : get_or l i 0 ≡ v → count v (take (i + 1) l) ≡ count v (take i l) + 1
-  unfolding count
-  count_hit e = rw (take_snoc l i 0 h, count_append v (take i l) (get_or l i 0 ∷ []), eq-eqb (get_or l i 0) v e)
-
-  pub count_miss : (get_or l i 0 ≡ v → ⊥) → count v (take (i + 1) l) ≡ count v (take i l)
-  unfolding count
-  count_miss e = rw (take_snoc l i 0 h, count_append v (take i l) (get_or l i 0 ∷ []), ne_eqb (get_or l i 0) v e) (omega arith)
-
--- ---- how many words stand there once
-
--- 1 for a word that does
-abbrev pub once : List ℕ → ℕ → ℕ
-once ns k = cond (eqb (count (get_or ns k 0) ns) 1) 1 0
-
-module _ (s : List ℕ) (i : ℕ) (h : i < length s) where
-  pub once_hit : count (get_or s i 0) s ≡ 1 → over 0 ◌+◌ (once s) i (length s) ≡ 1 + over 0 ◌+◌ (once s) (i + 1) (length s)
-  once_hit e = over_turn 0 ◌+◌ (once s) i (length s) h ∙ rw (eq-eqb (count (get_or s i 0) s) 1 e)
-
-  pub once_miss : (count (get_or s i 0) s ≡ 1 → ⊥) → over 0 ◌+◌ (once s) i (length s) ≡ over 0 ◌+◌ (once s) (i + 1) (length s)
-  once_miss e = over_turn 0 ◌+◌ (once s) i (length s) h ∙ rw (ne_eqb (count (get_or s i 0) s) 1 e) (omega arith)
 
 -- ---- a list that is written piece by piece from `at` on: xs is there, rest is to come
 

@@ -17,13 +17,7 @@ use words::fill::fill;
 fn count_in(s: &[u32], v: u32) -> usize
     ensures { result ≡ count v s.now }
 {
-    let mut c: usize = 0;
-    for i in 0..s.len() {
-        if s[i] == v {
-            c += 1;
-        }
-    }
-    c
+    s.iter().filter(|x| **x == v).count()
 }
 
 // How often a polygon holds the vertex.
@@ -93,13 +87,7 @@ fn push_all(work: &mut [u32], o: usize, np: usize, q: usize, rem: u32) -> Met
 fn met_once(s: &[u32]) -> usize
     ensures { result ≡ met_once s.now }
 {
-    let mut c: usize = 0;
-    for i in 0..s.len() {
-        if count_in(s, s[i]) == 1 {
-            c += 1;
-        }
-    }
-    c
+    s.iter().filter(|x| count_in(s, **x) == 1).count()
 }
 
 // Whether each polygon holds the vertex at most once, and at most 2 neighbours of it are met once. The zeros at q are

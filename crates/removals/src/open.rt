@@ -30,8 +30,5 @@ pub fn open_hole(work: &mut [u32], s: Site, n: Counts, rem: u32) -> Hole
     let e = s.scratch + sides * SIDE_SIZE + (sides + sides + 1) * POINT_SIZE;
     let walked = walk_sides(work, s.scratch, e, sides);
     let points = close_hole(work, s.scratch, walked.points);
-    Hole {
-        left: left,
-        points: points,
-    }
+    Hole { left, points }
 }

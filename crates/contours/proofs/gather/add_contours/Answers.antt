@@ -31,7 +31,6 @@ overflow_add-first c =
     let short-enough : length c.args.numbers.now < 2 ^ 64 = omega arith in
     record { fits = omega (arith, short-enough, going_first c.requires c.loop-c.invariant c.loop-c-test.true c.contour_at-k.ensures) }
 
-
 pub loop-c-preserved : goal.loop-c-preserved
 loop-c-preserved c =
     going_more c.requires c.loop-c.invariant c.loop-c-test.true c.contour_at-k.ensures (rw c.in-Ok.is at c.add_next.ensures.answer) c.add_next.ensures.words

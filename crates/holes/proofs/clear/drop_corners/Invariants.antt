@@ -1,5 +1,5 @@
 -- `holes::clear::drop_corners` meets its contract: the first j corners have dropped, and the others are as they were. Assumes nothing.
-use Prim.Native.Nat.{◌+◌, ◌-◌}
+use Prim.Native.Nat.{◌+◌}
 use lib.ListN.{get_or}
 use Rattle.mem.specs.Tab.{Filled}
 use Rattle.rules.specs.Removal.{dropped}

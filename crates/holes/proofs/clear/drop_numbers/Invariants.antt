@@ -1,5 +1,4 @@
 -- `holes::clear::drop_numbers` meets its contract: the first i records are those of the polygons with those numbers, and the others are as they were. Assumes nothing.
-use Prim.Native.Nat.{◌-◌}
 use Rattle.holes.proofs.Clears.{Dropping}
 use Rattle.holes.proofs.clear.drop_numbers.Given as goal
 

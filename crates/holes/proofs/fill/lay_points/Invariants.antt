@@ -1,4 +1,3 @@
-use Prim.Native.Nat.{◌-◌}
 use Rattle.holes.proofs.Fills.{Laying}
 use Rattle.holes.proofs.fill.lay_points.Given as goal
 

@@ -1,4 +1,3 @@
-use Prim.Native.Nat.{◌-◌}
 use Rattle.holes.proofs.Fills.{Shaping}
 use Rattle.holes.proofs.fill.shape_triangles.Given as goal
 

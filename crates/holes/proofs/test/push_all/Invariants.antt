@@ -1,6 +1,5 @@
 -- `holes::test::push_all` meets its contract: the first i polygons hold the vertex at most once, the neighbours in them are written, and the others are to come.
 -- Assumes nothing.
-use Prim.Native.Nat.{◌-◌}
 use Rattle.holes.proofs.Pushes.{Looking}
 use Rattle.holes.proofs.test.push_all.Given as goal
 

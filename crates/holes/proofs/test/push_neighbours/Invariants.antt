@@ -1,5 +1,4 @@
 -- `holes::test::push_neighbours` meets its contract: after j turns the ends on the first j sides are written, and the others are to come. Assumes nothing.
-use Prim.Native.Nat.{◌-◌}
 use Rattle.rules.specs.Removal.{neighbours_in}
 use Rattle.records.specs.Values.{corners_of}
 use Rattle.holes.proofs.Pushes.{Pushing, ends_from}
