@@ -60,7 +60,7 @@ fn pass(
             let p = link_at(work, top - 1);
             lose(writes, numbers, list, lost, p, j);
             Walk {
-                top: top,
+                top,
                 lost: lost + 1,
             }
         }
@@ -78,7 +78,7 @@ fn pass(
             work[top] = j as u32;
             Walk {
                 top: top + 1,
-                lost: lost,
+                lost,
             }
         }
     }
@@ -99,7 +99,7 @@ pub fn pass_all(
         list.new work.new }
 {
     work[0] = first as u32;
-    let mut at = Walk { top: 1, lost: lost };
+    let mut at = Walk { top: 1, lost };
     for j in first + 1..e {
         at = pass(writes, numbers, list, work, e, j, at);
     }

@@ -22,7 +22,7 @@ pub fn walk(
         return Span {
             lo: 0,
             n: 0,
-            lost: lost,
+            lost,
         };
     }
     let at = pass_all(writes, numbers, list, work, first, first + n, lost);
