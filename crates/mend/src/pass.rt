@@ -76,10 +76,7 @@ fn pass(
         }
         Meets::Neither => {
             work[top] = j as u32;
-            Walk {
-                top: top + 1,
-                lost,
-            }
+            Walk { top: top + 1, lost }
         }
     }
 }
