@@ -46,7 +46,8 @@ pub fn buffers_hold(mesh: &Mesh<'_>) -> bool
     if (COUNT_MOST < nv) | (COUNT_MOST < np) {
         return false;
     }
-    let whole = (mesh.vertices.len() == nv * VERTEX_STRIDE) & (mesh.polygons.len() == np * mesh.nvp);
+    let whole = (mesh.vertices.len() == nv * VERTEX_STRIDE)
+        & (mesh.polygons.len() == np * mesh.nvp);
     if whole & (mesh.links.len() == mesh.polygons.len()) {
         return are_in_grid(mesh.vertices, nv);
     }

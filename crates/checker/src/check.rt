@@ -43,7 +43,12 @@ fn rows_sound(mesh: &Mesh<'_>) -> Result<(), Fault>
 }
 
 // 40 to 42, which come first in every request that takes a mesh.
-pub fn soundness_of(nvp: u32, vertices: &[u16], polygons: &[u16], links: &[u32]) -> Result<(), Fault>
+pub fn soundness_of(
+    nvp: u32,
+    vertices: &[u16],
+    polygons: &[u16],
+    links: &[u32],
+) -> Result<(), Fault>
     ensures { result ≡ soundness (handed_in nvp vertices.now polygons.now links.now) }
 {
     let mesh = Mesh {

@@ -51,14 +51,7 @@ fn polygon_names_back(mesh: &Mesh<'_>, l: usize, a: u16, b: u16, i: u32) -> bool
 }
 
 // Whether the link of side j of polygon i, of np polygons, holds; `own` are its corners, and `mine` its links.
-pub fn link_holds(
-    mesh: &Mesh<'_>,
-    np: usize,
-    i: usize,
-    own: &[u16],
-    mine: &[u32],
-    j: usize,
-) -> bool
+pub fn link_holds(mesh: &Mesh<'_>, np: usize, i: usize, own: &[u16], mine: &[u32], j: usize) -> bool
     requires { PolygonAt (linked mesh.now) np i own.now mine.now × (j < length own.now) }
     ensures { result ≡ link_holds (mesh_in (linked mesh.now)) i j }
 {

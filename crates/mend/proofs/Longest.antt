@@ -1,4 +1,5 @@
 -- The loop for the longest contour: the longest so far and what is left make the whole. Assumes nothing.
+use Rattle.std.specs.Prelude.{max}
 use mathlib.Core.Path.{◌≡◌, refl, sym, ap, ◌∙◌}
 use mathlib.Core.List.{List}
 use mathlib.Core.Logic.{⊎_elim}
@@ -17,6 +18,13 @@ longer_up a b h = rw (lt-ltb a b h) refl
 pub longer_down : (a b : ℕ) → b ≤ a → longer a b ≡ a
 unfolding longer
 longer_down a b h = rw (le-ltb a b h) refl
+
+-- as a `max` has it
+pub longer_is : (a b : ℕ) {r : ℕ} → r ≡ max a b → r ≡ longer a b
+longer_is a b e = ⊎_elim
+    (λ (h : a < b). e ∙ (let m : max a b ≡ b = omega arith in m) ∙ sym (longer_up a b h))
+    (λ (h : b ≤ a). e ∙ (let m : max a b ≡ a = omega arith in m) ∙ sym (longer_down a b h))
+    (lt_or_le a b)
 
 longer_then : (a b c : ℕ) → longer a (longer b c) ≡ longer (longer a b) c
 longer_then a b c = ⊎_elim

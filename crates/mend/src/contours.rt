@@ -32,7 +32,7 @@ fn mend_contour(
     let kept = at.n;
     close_up(numbers, &work[lo..lo + kept], to);
     Tally {
-        kept: kept,
+        kept,
         lost: at.lost,
     }
 }

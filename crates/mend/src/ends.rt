@@ -39,7 +39,7 @@ fn off(
     let q = link_at(stack, gone);
     lose(writes, numbers, list, at.lost, p, q);
     Span {
-        lo: lo,
+        lo,
         n: at.n - 1,
         lost: at.lost + 1,
     }

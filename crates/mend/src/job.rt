@@ -1,7 +1,7 @@
 // The mender: a job's contours, or one contour, are mended in place.
 ghost use Rattle.std.specs.Prelude.{◌&&◌, ◌≡◌, leb, eqb, length};
 ghost use Rattle.rules.specs.Job.{sum_over};
-ghost use Rattle.rules.specs.MendCall.{longer, longest, mend_outcome, mend_reply_of, mend_exit, one_contour};
+ghost use Rattle.rules.specs.MendCall.{longest, mend_outcome, mend_reply_of, mend_exit, one_contour};
 ghost use Rattle.mend.specs.Call.{lent_of, WriteReady, Written, MendReady, Ended};
 
 use crate::contours::{count_lost, mend_all};
@@ -23,23 +23,13 @@ fn lengths_agree(lengths: &[u32], n: usize) -> bool
     count_all(lengths) == n
 }
 
-// The greater of two lengths.
-fn longer_of(a: usize, b: usize) -> usize
-    ensures { result ≡ longer a b }
-{
-    if a < b {
-        return b;
-    }
-    a
-}
-
 // The longest contour.
 fn longest_of(lengths: &[u32]) -> usize
     ensures { result ≡ longest lengths.now }
 {
     let mut most = 0;
     for c in 0..lengths.len() {
-        most = longer_of(most, link_at(lengths, c));
+        most = most.max(link_at(lengths, c));
     }
     most
 }

@@ -60,7 +60,7 @@ fn pass(
             let p = link_at(work, top - 1);
             lose(writes, numbers, list, lost, p, j);
             Walk {
-                top: top,
+                top,
                 lost: lost + 1,
             }
         }
@@ -76,10 +76,7 @@ fn pass(
         }
         Meets::Neither => {
             work[top] = j as u32;
-            Walk {
-                top: top + 1,
-                lost: lost,
-            }
+            Walk { top: top + 1, lost }
         }
     }
 }
@@ -99,7 +96,7 @@ pub fn pass_all(
         list.new work.new }
 {
     work[0] = first as u32;
-    let mut at = Walk { top: 1, lost: lost };
+    let mut at = Walk { top: 1, lost };
     for j in first + 1..e {
         at = pass(writes, numbers, list, work, e, j, at);
     }

@@ -19,11 +19,7 @@ pub fn walk(
         list.new work.new }
 {
     if n == 0 {
-        return Span {
-            lo: 0,
-            n: 0,
-            lost: lost,
-        };
+        return Span { lo: 0, n: 0, lost };
     }
     let at = pass_all(writes, numbers, list, work, first, first + n, lost);
     let whole = Span {

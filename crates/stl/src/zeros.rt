@@ -2,7 +2,6 @@
 ghost use Rattle.std.specs.Prelude.{◌≡◌, ◌<◌, length};
 ghost use Rattle.rules.specs.Stl.{zero_due, wrong_at, first_wrong};
 
-
 // Whether byte i of a file is to be zero.
 fn zero_due(i: usize) -> bool
     ensures { result ≡ zero_due i }

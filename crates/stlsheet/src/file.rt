@@ -41,7 +41,11 @@ pub fn put_carved(
     match reply {
         Ok(facets) => FRONT_BYTES + facets as usize * FACET_BYTES,
         Err(refusal) => {
-            put_refused(out, stl_refusal_number(refusal), stl_refusal_second(refusal))
+            put_refused(
+                out,
+                stl_refusal_number(refusal),
+                stl_refusal_second(refusal),
+            )
         }
     }
 }

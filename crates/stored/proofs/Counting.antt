@@ -42,6 +42,8 @@ module _ {row : List ℕ} {c : ℕ} (r : Counting row c) where
   unfolding up_to_none
   counted_there h e = counted (ap up_to_none (drop-cons row c 0 h) ∙ rw (eq-eqb (get_or row c 0) none e))
 
-  pub counted_all : length row ≤ c → (c ≡ length (up_to_none row)) × (take c row ≡ up_to_none row)
+  pub counted_all : length row ≤ c → (length row ≡ length (up_to_none row)) × (take (length row) row ≡ up_to_none row)
   unfolding up_to_none
-  counted_all h = counted (ap up_to_none (drop_of_length-le row {i = c} h))
+  counted_all h =
+      let e : c ≡ length row = omega (arith, r.within) in
+      rw e at (counted (ap up_to_none (drop_of_length-le row {i = c} h)))

@@ -9,12 +9,10 @@ pub const UNUSED: u16 = 65535;
 pub fn count_corners(row: &[u16]) -> usize
     ensures { (result ≡ length (up_to_none row.now)) × (take result row.now ≡ up_to_none row.now) }
 {
-    let mut c = 0;
-    while c < row.len() {
+    for c in 0..row.len() {
         if row[c] == UNUSED {
-            break;
+            return c;
         }
-        c += 1;
     }
-    c
+    row.len()
 }

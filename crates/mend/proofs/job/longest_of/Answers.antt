@@ -1,4 +1,6 @@
-use Rattle.mend.proofs.Longest.{longest_begin, longest_more, longest_end}
+use Rattle.std.specs.Prelude.{◌≡◌, max}
+use borrow.Author.Rules.{rules}
+use Rattle.mend.proofs.Longest.{longer_is, longest_begin, longest_more, longest_end}
 use Rattle.mend.proofs.job.longest_of.Goals as goal
 
 pub loop-c-init : goal.loop-c-init
@@ -6,7 +8,8 @@ loop-c-init c = longest_begin c.args.lengths.now
 
 pub loop-c-preserved : goal.loop-c-preserved
 loop-c-preserved c =
-    longest_more c.loop-c.invariant c.loop-c-test.true c.link_at.ensures c.longer_of-most.ensures
+    let r : c.max-most.result ≡ max c.loop-c.most c.link_at.result = search rules in
+    longest_more c.loop-c.invariant c.loop-c-test.true c.link_at.ensures (longer_is _ _ r)
 
 pub returns : goal.returns
 returns c = longest_end c.loop-c.invariant c.loop-c-test.false

@@ -1,5 +1,5 @@
--- `mend::job::longest_of` meets its contract: the loop's invariant is `Longest`: the longest so far and those that are left make the whole. The measure is
--- how many are left. Assumes nothing.
+-- `mend::job::longest_of` meets its contract: the loop's invariant is `Longest`: the longest so far and those that are left make the whole.
+-- Assumes nothing.
 use Prim.Native.Nat.{◌-◌}
 use lib.ListN.{length}
 use Rattle.mend.proofs.Longest.{Longest}

@@ -1,6 +1,5 @@
 -- `stored::area::mesh_area` meets its contract. The loop's invariant is `Summed`: the sum is the area of the polygons so far. The measure is what is left of
 -- the polygons. Assumes nothing.
-use Prim.Native.Nat.{◌-◌}
 use Rattle.stored.proofs.Sums.{Summed}
 use Rattle.stored.proofs.area.mesh_area.Given as goal
 

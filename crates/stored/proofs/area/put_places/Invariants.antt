@@ -1,7 +1,5 @@
 -- `stored::area::put_places` meets its contract. The loop's invariant is `Placed`: the words of the places so far are written. The measure is what is left of
 -- the corners. Assumes nothing.
-use Prim.Native.Nat.{◌-◌}
-use lib.ListN.{length}
 use Rattle.stored.proofs.Places.{Placed}
 use Rattle.stored.proofs.area.put_places.Given as goal
 
