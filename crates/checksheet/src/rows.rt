@@ -91,7 +91,9 @@ pub fn polygon_lines(
         return Err(SheetRefusal::Malformed(p.line));
     }
     let mut values = [0u64; 14];
-    let n = corner_cells(&text[from..e], words, &mut values).ok_or(SheetRefusal::Malformed(p.line))?;
+    let n = corner_cells(&text[from..e], words, &mut values).ok_or(SheetRefusal::Malformed(
+        p.line,
+    ))?;
     put_row16(polygons, i * words, words, &values[2..n + 2]);
     let next = Progress {
         line: p.line + 1,

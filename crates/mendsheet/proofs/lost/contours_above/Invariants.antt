@@ -7,6 +7,3 @@ use Rattle.mendsheet.proofs.lost.contours_above.Given as goal
 
 abbrev pub invariant-loop-c : goal.invariant-loop-c
 invariant-loop-c l = Passed l.lengths l.k l.rest l.c
-
-abbrev pub decreases-loop-c : goal.decreases-loop-c
-decreases-loop-c l = length l.lengths - l.c
