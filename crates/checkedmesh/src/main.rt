@@ -4,5 +4,5 @@
 use streams::answer_input;
 
 fn main(rt: HostRuntime) -> anyhow::Result<()> {
-    answer_input(&rt, checksheet::check_sheet)
+    answer_input(&rt, |text, out| checksheet::check_sheet(text, out))
 }

@@ -4,5 +4,5 @@
 use streams::answer_input;
 
 fn main(rt: HostRuntime) -> anyhow::Result<()> {
-    answer_input(&rt, sheet::mesh_sheet)
+    answer_input(&rt, |text, out| sheet::mesh_sheet(text, out))
 }

@@ -4,5 +4,5 @@
 use streams::answer_input;
 
 fn main(rt: HostRuntime) -> anyhow::Result<()> {
-    answer_input(&rt, mendsheet::lost_sheet)
+    answer_input(&rt, |text, out| mendsheet::lost_sheet(text, out))
 }

@@ -4,5 +4,5 @@
 use streams::answer_input;
 
 fn main(rt: HostRuntime) -> anyhow::Result<()> {
-    answer_input(&rt, mendsheet::mend_sheet)
+    answer_input(&rt, |text, out| mendsheet::mend_sheet(text, out))
 }

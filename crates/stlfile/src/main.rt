@@ -4,5 +4,5 @@
 use streams::answer_input;
 
 fn main(rt: HostRuntime) -> anyhow::Result<()> {
-    answer_input(&rt, stlsheet::stl_sheet)
+    answer_input(&rt, |text, out| stlsheet::stl_sheet(text, out))
 }

@@ -1,7 +1,5 @@
 -- `mendsheet::lost::contours_above` meets its contract. The loop's invariant is `Passed`: the contours passed, and those of the rest, are all that stand above.
 -- Assumes nothing.
-use Prim.Native.Nat.{◌-◌}
-use lib.ListN.{length}
 use Rattle.mendsheet.proofs.Above.{Passed}
 use Rattle.mendsheet.proofs.lost.contours_above.Given as goal
 

@@ -1,5 +1,4 @@
 -- `mendsheet::lost::put_lost` meets its contract: the loop prints the lines one behind the other. Assumes nothing.
-use Prim.Native.Nat.{◌-◌}
 use lib.ListN.{length, get_or}
 use Rattle.rules.specs.MendSheet.{lost_line}
 use Rattle.lines.specs.Pieces.{Pieces}
