@@ -1,13 +1,11 @@
 -- What is behind the heading, from the mesh line on: there is none, or its lists are read. Assumes nothing.
-use Rattle.std.specs.Prelude.{Option, Some, None, Ok, Err}
-use mathlib.Core.Path.{◌≡◌, refl, sym, ◌∙◌, subst}
-use mathlib.Core.Bool.{true, false}
+use Rattle.std.specs.Prelude.{Option, Some, None, Result, Ok, Err, ⊤}
+use mathlib.Core.Path.{◌≡◌, refl, sym, ap, ◌∙◌, subst}
 use mathlib.Core.List.{List, []}
 use mathlib.Core.Logic.{⊎_elim}
 use Prim.Native.Nat.{ℕ, ◌+◌, ◌-◌, ◌*◌, ◌≤◌, ◌<◌}
 use native.Mathlib.Nat.{mul-le-mul}
 use native.Mathlib.Omega.{arith}
-use lib.IntN.{ℤ}
 use lib.ListN.{length, drop}
 use borrow.Author.Tests.{le-leb, lt-leb}
 use Rattle.mem.specs.Slice.{view}
@@ -17,16 +15,15 @@ use Rattle.rules.specs.Sheet.{heading_lines, line_at}
 use Rattle.rules.specs.CheckSheet.{count_most, row_words, no_mesh_yet, read_places, read_mesh}
 use Rattle.lines.specs.Scan.{place_of}
 use Rattle.sheet.specs.declared.heading.Heading.{Heading}
+use Rattle.sheet.specs.declared.refusal.SheetRefusal.{SheetRefusal}
 use Rattle.sheet.specs.declared.refusal.SheetRefusal.TheVariants.{Malformed}
 use Rattle.sheet.specs.Refusals.{number_of, line_of, refused_as}
 use Rattle.sheet.specs.Reading.{sheet_of}
 use Rattle.checksheet.specs.declared.counts.MeshLine.{MeshLine}
-use Rattle.checksheet.specs.declared.progress.Progress.{Progress}
 use Rattle.checksheet.specs.Reading.{CountedAs, MeshIs, with_mesh, end_of, ListsReady, ListsRead}
 use Rattle.checksheet.specs.Claims.{MeshReady, claim_of, ClaimedAs, FoundAs, MeshRead}
 use Rattle.checksheet.proofs.MeshLines.{other_count}
 use Rattle.checksheet.proofs.Resting.{line_here, line_none}
-use Rattle.checksheet.proofs.ListLines.{end_good, end_bad}
 
 -- ---- the words of a row
 pub words_all : (nvp : ℕ) → nvp ≤ 12 → nvp ≡ row_words nvp
@@ -87,27 +84,29 @@ module _ (text : List ℕ) (x : Heading) {e : ℕ} (q : e ≡ x.at + place_of lf
               links = omega (arith, rows, r.links);
             }
 
-        module _ {words : ℕ} {p : Progress} {vs ps ls : List ℕ} (w : words ≡ row_words x.nvp) (lists : ListsRead text (e + 1) words m.places m.polygons p vs ps ls) where
+        module _ {words : ℕ} {a : Result ⊤ SheetRefusal} {vs ps ls : List ℕ} (w : words ≡ row_words x.nvp) (lists : ListsRead text (e + 1) words m.places m.polygons a vs ps ls) where
           counts : read_mesh (lines_of (drop x.at text)) (sheet_of x) ≡ read_places 6 m.places m.polygons (lines_of (drop (e + 1) text)) (no_mesh_yet (sheet_of x) m.total)
           unfolding read_mesh
           counts =
               rw (here, later)
               (says.says (heading_lines + 1) (λ k n z. read_places (heading_lines + 2) k n (lines_of (drop (e + 1) text)) (no_mesh_yet (sheet_of x) z)))
 
-          rest : read_places 6 m.places m.polygons (lines_of (drop (e + 1) text)) (no_mesh_yet (sheet_of x) m.total) ≡ end_of p (claim_of x m.places m.polygons m.total vs ps ls)
+          rest : read_places 6 m.places m.polygons (lines_of (drop (e + 1) text)) (no_mesh_yet (sheet_of x) m.total) ≡ end_of a (claim_of x m.places m.polygons m.total vs ps ls)
           unfolding with_mesh no_mesh_yet sheet_of claim_of
           rest = rw (← w) (lists.same (no_mesh_yet (sheet_of x) m.total) (sym w))
 
-          pub mesh_claimed : p.good ≡ true → MeshRead text x (Ok m) vs ps ls
-          unfolding FoundAs
+          pub mesh_claimed : {u : ⊤} → a ≡ Ok u → MeshRead text x (Ok m) vs ps ls
+          unfolding FoundAs end_of
           mesh_claimed g =
-              let a : ClaimedAs text x m.places m.polygons m.total vs ps ls = record {
+              let f : ClaimedAs text x m.places m.polygons m.total vs ps ls = record {
                 places = says.places;
                 polygons = says.polygons;
-                same = counts ∙ rest ∙ end_good p _ g;
+                same = counts ∙ rest ∙ ap (λ (y : Result ⊤ SheetRefusal). end_of y (claim_of x m.places m.polygons m.total vs ps ls)) g;
               } in
-              record { found = a }
+              record { found = f }
 
-          pub mesh_unread : p.good ≡ false → MeshRead text x (Err (Malformed p.line)) vs ps ls
-          unfolding FoundAs refused_as number_of line_of
-          mesh_unread g = record { found = counts ∙ rest ∙ end_bad p _ g }
+          pub mesh_unread : {e : SheetRefusal} → a ≡ Err e → MeshRead text x (Err e) vs ps ls
+          unfolding FoundAs end_of
+          mesh_unread g = record {
+            found = counts ∙ rest ∙ ap (λ (y : Result ⊤ SheetRefusal). end_of y (claim_of x m.places m.polygons m.total vs ps ls)) g;
+          }

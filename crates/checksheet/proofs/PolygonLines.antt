@@ -1,7 +1,7 @@
 -- The lines of the polygons, one after the other: a line that is bad is the refusal, and behind two good ones the rest comes to what the whole comes to.
 -- Assumes nothing.
-use mathlib.Core.Path.{◌≡◌, refl, sym, ap, ◌∙◌, subst}
-use mathlib.Core.Bool.{true, false}
+use Rattle.std.specs.Prelude.{Result, Ok, Err}
+use mathlib.Core.Path.{◌≡◌, refl, ap, ◌∙◌}
 use mathlib.Core.List.{List, [], ◌++◌}
 use Prim.Native.Nat.{ℕ, suc, ◌+◌, ◌-◌, ◌*◌, ◌≤◌, ◌<◌}
 use native.Mathlib.Nat.{sub-zero}
@@ -17,10 +17,12 @@ use Rattle.rules.specs.CheckSheet.{row_words, corner_numbers, link_numbers, with
 use Rattle.rules.specs.Checker.{Claim}
 use Rattle.lines.specs.Scan.{place_of}
 use Rattle.checksheet.specs.declared.progress.Progress.{Progress}
-use Rattle.checksheet.specs.Reading.{with_mesh, rest_by, stopped_at, Within, CornersAre, RowAtReady, LinksRead}
+use Rattle.checksheet.specs.Reading.{with_mesh, rest_by, Within, WithinAs, CornersAre, RowAtReady, LinksRead}
 use Rattle.checksheet.specs.Reading.{PolygonReady, PolygonRead, PolygonsReady, PolygonsRead}
+use Rattle.sheet.specs.declared.refusal.SheetRefusal.{SheetRefusal}
+use Rattle.sheet.specs.declared.refusal.SheetRefusal.TheVariants.{Malformed}
 use Rattle.sheet.specs.Needs.{need_bad, need_good}
-use Rattle.checksheet.proofs.Resting.{rest_good, rest_bad, rest_cong, rest_stopped, stopped_within}
+use Rattle.checksheet.proofs.Resting.{rest_good, rest_cong, rest_stopped, no_place, a_place, place_of_good}
 use Rattle.checksheet.proofs.Resting.{line_here, line_none, next_within}
 use Rattle.checksheet.proofs.RowLines.{corner_words_lem, corner_count, row_more}
 
@@ -50,17 +52,17 @@ module _ {text : List ℕ} {p : Progress} {words i : ℕ} {ps ls : List ℕ} (re
   at_polygon due c vs xs ys e = rw e refl
 
   -- the `p` line is bad
-  pub polygon_bad : corner_numbers words (line_at here 0) ≡ malformed → {q : Progress} → q ≡ stopped_at p → PolygonRead text p q words i ps ls ps ls
-  polygon_bad e x = subst (λ (q : Progress). PolygonRead text p q words i ps ls ps ls) (sym x) (record {
-    within = stopped_within text p ready.within;
+  pub polygon_bad : corner_numbers words (line_at here 0) ≡ malformed → PolygonRead text p (Err (Malformed p.line)) words i ps ls ps ls
+  polygon_bad e = record {
+    within = no_place text p.line;
     polygons = refl;
     links = refl;
-    same = λ due c vs z. at_polygon due c vs _ _ z ∙ need_bad p.line _ e ∙ rest_stopped text p _;
-  })
+    same = λ due c vs z. at_polygon due c vs _ _ z ∙ need_bad p.line _ e ∙ rest_stopped text p.line _;
+  }
 
   module _ {e : ℕ} (q : e ≡ p.at + place_of lf (drop p.at text)) where
     -- there is none
-    pub polygon_open : length text ≤ e → {s : Progress} → s ≡ stopped_at p → PolygonRead text p s words i ps ls ps ls
+    pub polygon_open : length text ≤ e → PolygonRead text p (Err (Malformed p.line)) words i ps ls ps ls
     polygon_open h = polygon_bad (ap (corner_numbers words) (line_none text p.at q h) ∙ no_corners words)
 
     module _ (h : e < length text) where
@@ -68,13 +70,13 @@ module _ {text : List ℕ} {p : Progress} {words i : ℕ} {ps ls : List ℕ} (re
       unfolding line_at
       first = rw (line_here text p.at q h) refl
 
-      pub polygon_missed : corner_numbers words (parts tab_byte (view text p.at (e - p.at))) ≡ malformed → {s : Progress} → s ≡ stopped_at p
-          → PolygonRead text p s words i ps ls ps ls
+      pub polygon_missed : corner_numbers words (parts tab_byte (view text p.at (e - p.at))) ≡ malformed
+          → PolygonRead text p (Err (Malformed p.line)) words i ps ls ps ls
       polygon_missed z = polygon_bad (ap (corner_numbers words) first ∙ z)
 
       -- the place behind it
       abbrev pub behind : Progress
-      behind = record { good = true; line = p.line + 1; at = e + 1 }
+      behind = record { line = p.line + 1; at = e + 1 }
 
       pub links_asked : {n : ℕ} → n ≤ words → RowAtReady text behind words i n ls
       links_asked z =
@@ -91,7 +93,7 @@ module _ {text : List ℕ} {p : Progress} {words i : ℕ} {ps ls : List ℕ} (re
 
       module _ {n : ℕ} {v w : List ℕ} (a : CornersAre words (parts tab_byte (view text p.at (e - p.at))) n v w) (room : length v ≡ 14)
           {ps' ls' : List ℕ} (m : ℕ) (k : m ≡ n) (put : ps' ≡ splice ps (i * words) (padded words (view w 2 m)))
-          {s : Progress} (links : LinksRead text behind s words i n ls ls') where
+          {s : Result Progress SheetRefusal} (links : LinksRead text behind s words i n ls ls') where
         stored : ps' ≡ splice ps (i * words) (padded words (drop 2 a.ns))
         stored = put ∙ ap (λ (l : List ℕ). splice ps (i * words) (padded words l)) (corner_words_lem a room ready.few k)
 
@@ -116,14 +118,13 @@ module _ {text : List ℕ} {p : Progress} {words i : ℕ} {ps ls : List ℕ} (re
           links = links.long;
           same = λ due c vs z.
               both due c vs (take (i * words) ps) (take (i * words) ls) z
-              ∙ rest_cong text s _ _ (λ g line lines. ap (read_polygons line due lines)
-              (with_row c vs (take (i * words) ps) (take (i * words) ls) (drop 2 a.ns) links.ms z ∙ rw (more, links.more g) refl));
+              ∙ rest_cong text s _ _ (λ u g line lines. ap (read_polygons line due lines)
+              (with_row c vs (take (i * words) ps) (take (i * words) ls) (drop 2 a.ns) links.ms z ∙ rw (more, links.more u g) refl));
         }
 
 -- ---- the loop: i polygons are read, and what is left from p on comes to what the whole comes to from f on
 pub record Going (text : List ℕ) (f : Progress) (words n : ℕ) (p : Progress) (i : ℕ) (v w ps ls : List ℕ) : Type 0 where
   pub within : Within text p
-  pub going : p.good ≡ true
   pub few : words ≤ 12
   pub count : i ≤ n
   pub polygons : length ps ≡ length v
@@ -139,7 +140,6 @@ going_begin {text} {f} {words} {n} r =
     let e : 0 * words ≡ 0 = omega arith in
     record {
       within = r.within;
-      going = r.going;
       few = r.few;
       count = omega arith;
       polygons = refl;
@@ -159,41 +159,47 @@ module _ {text : List ℕ} {f : Progress} {words n : ℕ} {p : Progress} {i : �
         links = block_fits i n words (length ls) h s.space;
       }
 
-  module _ (h : i < n) {q : Progress} {ps' ls' : List ℕ} (r : PolygonRead text p q words i ps ls ps' ls') where
+  module _ (h : i < n) {a : Result Progress SheetRefusal} {ps' ls' : List ℕ} (r : PolygonRead text p a words i ps ls ps' ls') where
     turn : (c : Claim) (vs : List ℕ) → row_words c.mesh.nvp ≡ words
         → read_polygons f.line n (lines_of (drop f.at text)) (with_mesh c vs [] [])
-        ≡ rest_by text q (λ k lines. read_polygons k (n - (i + 1)) lines (with_mesh c vs (take ((i + 1) * words) ps') (take ((i + 1) * words) ls')))
+        ≡ rest_by text a (λ k lines. read_polygons k (n - (i + 1)) lines (with_mesh c vs (take ((i + 1) * words) ps') (take ((i + 1) * words) ls')))
     turn c vs z =
         let e : n - i ≡ suc (n - (i + 1)) = omega arith in
         s.same c vs z
         ∙ ap (λ (d : ℕ). read_polygons p.line d (lines_of (drop p.at text)) (with_mesh c vs (take (i * words) ps) (take (i * words) ls))) e
         ∙ r.same (n - (i + 1)) c vs z
 
-    pub going_next : q.good ≡ true → Going text f words n q (i + 1) v w ps' ls'
+    pub going_next : {q : Progress} → a ≡ Ok q → Going text f words n q (i + 1) v w ps' ls'
     going_next g =
         record {
-          within = r.within;
-          going = g;
+          within = place_of_good text r.within g;
           few = s.few;
           count = omega arith;
           polygons = r.polygons ∙ s.polygons;
           links = r.links ∙ s.links;
           room = rw r.polygons s.room;
           space = rw r.links s.space;
-          same = λ c vs z. turn c vs z ∙ rest_good text q _ g;
+          same = λ c vs z. turn c vs z ∙ rest_good text _ g;
         }
 
-    pub going_stop : q.good ≡ false → PolygonsRead text f q words n ps' ls'
-    going_stop g = record { within = r.within; same = λ c vs z. turn c vs z ∙ rest_bad text q _ g ∙ sym (rest_bad text q _ g) }
+    pub going_stop : {z : SheetRefusal} → a ≡ Err z → PolygonsRead text f (Err z) words n ps' ls'
+    unfolding rest_by WithinAs
+    going_stop g = record {
+      within = Prim.tt;
+      same = λ c vs z.
+          turn c vs z
+          ∙ ap (λ (x : Result Progress SheetRefusal). rest_by text x (λ k lines. read_polygons k (n - (i + 1)) lines (with_mesh c vs (take ((i + 1) * words) ps') (take ((i + 1) * words) ls')))) g;
+    }
 
-  pub going_end : n ≤ i → PolygonsRead text f p words n ps ls
+  pub going_end : n ≤ i → PolygonsRead text f (Ok p) words n ps ls
+  unfolding rest_by
   going_end h =
       let e : i ≡ n = omega (arith, s.count) in
       let z : n - i ≡ 0 = omega arith in
       record {
-        within = s.within;
+        within = a_place text p s.within;
         same = λ c vs x.
             s.same c vs x
             ∙ ap (λ (d : ℕ). read_polygons p.line d (lines_of (drop p.at text)) (with_mesh c vs (take (i * words) ps) (take (i * words) ls))) z
-            ∙ rw e (sym (rest_good text p _ s.going));
+            ∙ rw e refl;
       }

@@ -1,7 +1,8 @@
 -- A polygon's two lines as they are read: the numbers of each line that are found at the beginning of the words, and the words that are stored of them. Assumes
 -- nothing.
+use Rattle.std.specs.Prelude.{Option, Some, None, Ok, Err}
 use mathlib.Core.Path.{◌≡◌, refl, sym, ap, ◌∙◌, subst}
-use mathlib.Core.Bool.{Bool, true, false, true≢false}
+use mathlib.Core.Bool.{Bool, true, false}
 use mathlib.Core.List.{List, [], ◌∷◌, ◌++◌}
 use Prim.Native.Nat.{ℕ, suc, ◌+◌, ◌-◌, ◌*◌, ◌≤◌, ◌<◌}
 use native.Mathlib.Omega.{arith}
@@ -19,9 +20,10 @@ use Rattle.lines.specs.Scan.{place_of}
 use Rattle.lines.specs.Read.{RowRead}
 use Rattle.lines.specs.Taken.{row_good, row_bad}
 use Rattle.checksheet.specs.declared.progress.Progress.{Progress}
-use Rattle.checksheet.specs.Reading.{rest_by, stopped_at, RowReady, CornersAre, CornersRead, RowAtReady, LinksRead}
+use Rattle.checksheet.specs.Reading.{rest_by, RowReady, CornersAre, CornersRead, RowAtReady, LinksRead}
+use Rattle.sheet.specs.declared.refusal.SheetRefusal.TheVariants.{Malformed}
 use Rattle.sheet.specs.Needs.{need_bad, need_good}
-use Rattle.checksheet.proofs.Resting.{rest_stopped, stopped_within, line_here, line_none, next_within}
+use Rattle.checksheet.proofs.Resting.{rest_stopped, no_place, a_place, no_ok, line_here, line_none, next_within}
 
 -- the numbers at the beginning of the words
 first_words : (v ns : List ℕ) (n : ℕ) {w : List ℕ} → w ≡ splice v 0 ns → length ns ≡ n → n ≤ length v → take n w ≡ ns
@@ -54,8 +56,9 @@ module _ (most : ℕ) (l : Line) where
   above_most h = rw (lt-leb (length l) (3 + most) h, corner_numbers) refl
 
   -- there are too many cells
-  pub corners_over : (v w : List ℕ) → 3 + most < length l → CornersRead most l (record { good = false; count = 0 }) v w
-  corners_over v w h = record { found = λ e. absurd (true≢false (sym e)); none = λ e. above_most h }
+  pub corners_over : (v w : List ℕ) → 3 + most < length l → CornersRead most l None v w
+  unfolding CornersRead
+  corners_over v w h = above_most h
 
   module _ {k : ℕ} (e : k ≡ length l - 3) (h : length l ≤ 3 + most) (few : most ≤ 12) {r : Bool} {v w : List ℕ}
       (x : RowRead p_name 0 (take (k + 2) corner_mosts) l r v w) where
@@ -65,21 +68,32 @@ module _ (most : ℕ) (l : Line) where
     is : corner_numbers most l ≡ numbers_of p_name 0 (number_most ∷ code_most ∷ replicate k number_most) l
     is = rw e (within_most h)
 
-    pub corners_none : r ≡ false → CornersRead most l (record { good = false; count = 0 }) v w
-    corners_none q = record { found = λ z. absurd (true≢false (sym z)); none = λ z. is ∙ row_bad row q }
+    pub corners_none : r ≡ false → CornersRead most l None v w
+    unfolding CornersRead
+    corners_none q = is ∙ row_bad row q
 
-    pub corners_found : r ≡ true → CornersRead most l (record { good = true; count = k }) v w
+    pub corners_found : r ≡ true → CornersRead most l (Some k) v w
+    unfolding CornersRead
     corners_found q =
         let g = row_good row q in
-        let a : CornersAre most l k v w = record {
+        record {
           ns = g.ns;
           says = is ∙ g.says;
           long = g.limits.long ∙ simp length-replicate (omega arith);
           few = omega arith;
           small = λ i z. omega (arith, (g.limits.most (i + 2) (simp length-replicate (omega arith))).1, limit_at k i z);
           put = g.put;
-        } in
-        record { found = λ z. a; none = λ z. absurd (true≢false z) }
+        }
+
+-- what the answer tells
+module _ (most : ℕ) (l : Line) (v w : List ℕ) {o : Option ℕ} (x : CornersRead most l o v w) where
+  pub corners_are : {count : ℕ} → o ≡ Some count → CornersAre most l count v w
+  unfolding CornersRead
+  corners_are e = subst (λ (q : Option ℕ). CornersRead most l q v w) e x
+
+  pub corners_missed : o ≡ None → corner_numbers most l ≡ malformed
+  unfolding CornersRead
+  corners_missed e = subst (λ (q : Option ℕ). CornersRead most l q v w) e x
 
 module _ {most : ℕ} {l : Line} {count : ℕ} {v w : List ℕ} (a : CornersAre most l count v w) (room : length v ≡ 14) (few : most ≤ 12) where
   -- what is stored of it: the numbers behind region and area code
@@ -157,19 +171,18 @@ row_more ws ns i words h r =
 
 module _ {text : List ℕ} {p : Progress} {words i n : ℕ} {ls : List ℕ} (ready : RowAtReady text p words i n ls) where
   -- the line is bad
-  pub links_bad : link_numbers n (line_at (lines_of (drop p.at text)) 0) ≡ malformed → {q : Progress} → q ≡ stopped_at p → LinksRead text p q words i n ls ls
-  unfolding stopped_at
-  links_bad e x = subst (λ (q : Progress). LinksRead text p q words i n ls ls) (sym x) (record {
-    within = stopped_within text p ready.within;
+  pub links_bad : link_numbers n (line_at (lines_of (drop p.at text)) 0) ≡ malformed → LinksRead text p (Err (Malformed p.line)) words i n ls ls
+  links_bad e = record {
+    within = no_place text p.line;
     long = refl;
     ms = [];
-    more = λ z. absurd (true≢false (sym z));
-    same = λ f. need_bad p.line _ e ∙ rest_stopped text p _;
-  })
+    more = λ q z. absurd (no_ok z);
+    same = λ f. need_bad p.line _ e ∙ rest_stopped text p.line _;
+  }
 
   module _ {e : ℕ} (q : e ≡ p.at + place_of lf (drop p.at text)) where
     -- there is none
-    pub links_open : length text ≤ e → {s : Progress} → s ≡ stopped_at p → LinksRead text p s words i n ls ls
+    pub links_open : length text ≤ e → LinksRead text p (Err (Malformed p.line)) words i n ls ls
     links_open h = links_bad (ap (link_numbers n) (line_none text p.at q h) ∙ no_links_lem n)
 
     module _ (h : e < length text) where
@@ -177,21 +190,21 @@ module _ {text : List ℕ} {p : Progress} {words i n : ℕ} {ls : List ℕ} (rea
       unfolding line_at
       here = rw (line_here text p.at q h) refl
 
-      pub links_missed : link_numbers n (parts tab_byte (view text p.at (e - p.at))) ≡ malformed → {s : Progress} → s ≡ stopped_at p
-          → LinksRead text p s words i n ls ls
+      pub links_missed : link_numbers n (parts tab_byte (view text p.at (e - p.at))) ≡ malformed
+          → LinksRead text p (Err (Malformed p.line)) words i n ls ls
       links_missed z = links_bad (ap (link_numbers n) here ∙ z)
 
       pub links_put : {w ls' : List ℕ} → LinksGood n (parts tab_byte (view text p.at (e - p.at))) w → ls' ≡ splice ls (i * words) (padded words (take n w))
-          → LinksRead text p (record { good = true; line = p.line + 1; at = e + 1 }) words i n ls ls'
+          → LinksRead text p (Ok (record { line = p.line + 1; at = e + 1 })) words i n ls ls'
       unfolding rest_by line_at
       links_put {w} {ls'} g x =
           let t = ready.within in
           let y : ls' ≡ splice ls (i * words) (padded words g.ns) = x ∙ ap (λ (l : List ℕ). splice ls (i * words) (padded words l)) g.first in
           record {
-            within = next_within text p.at q t.inside t.short t.small h;
+            within = a_place text (record { line = p.line + 1; at = e + 1 }) (next_within text p.at q t.inside t.short t.small h);
             long = ap length y ∙ length_splice ls (i * words) (padded words g.ns);
             ms = g.ns;
-            more = λ z. rw y (row_more ls g.ns i words (omega (arith, g.long, ready.corners)) ready.room);
+            more = λ u z. rw y (row_more ls g.ns i words (omega (arith, g.long, ready.corners)) ready.room);
             same = λ f.
                 need_good p.line _ (ap (link_numbers n) here ∙ g.says)
                 ∙ ap (λ (l : List Line). f (p.line + 1) (drop 1 l) g.ns) (line_here text p.at q h);

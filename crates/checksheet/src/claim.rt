@@ -40,7 +40,7 @@ pub fn read_mesh(
     }
     let mesh = mesh_cells(&text[from..e]).ok_or(SheetRefusal::Malformed(MESH_LINE))?;
     let words = row_words(x.nvp);
-    let p = read_lists(
+    read_lists(
         text,
         e + 1,
         words,
@@ -49,9 +49,6 @@ pub fn read_mesh(
         vertices,
         polygons,
         links,
-    );
-    if p.good {
-        return Ok(mesh);
-    }
-    Err(SheetRefusal::Malformed(p.line))
+    )?;
+    Ok(mesh)
 }

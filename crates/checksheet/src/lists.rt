@@ -3,7 +3,7 @@ ghost use Rattle.checksheet.specs.Reading.{ListsReady, ListsRead};
 
 use crate::places::read_places;
 use crate::polygons::read_polygons;
-use crate::progress::{Progress, stopped};
+use sheet::refusal::SheetRefusal;
 
 // The lines of k vertices and n polygons, from `from` on; no line may follow.
 pub fn read_lists(
@@ -15,19 +15,14 @@ pub fn read_lists(
     vertices: &mut [u16],
     polygons: &mut [u16],
     links: &mut [u32],
-) -> Progress
+) -> Result<(), SheetRefusal>
     requires { ListsReady text.now from words k n vertices.old polygons.old links.old }
     ensures { ListsRead text.now from words k n result vertices.new polygons.new links.new }
 {
-    let p = read_places(text, from, k, vertices);
-    if p.good {
-        let q = read_polygons(text, p, words, n, polygons, links);
-        if q.good {
-            if q.at < text.len() {
-                return stopped(q);
-            }
-        }
-        return q;
+    let p = read_places(text, from, k, vertices)?;
+    let end = read_polygons(text, p, words, n, polygons, links)?;
+    if end.at < text.len() {
+        return Err(SheetRefusal::Malformed(end.line));
     }
-    p
+    Ok(())
 }

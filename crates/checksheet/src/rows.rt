@@ -4,24 +4,18 @@ ghost use Rattle.rules.specs.Lines.{tab_byte, parts};
 ghost use Rattle.checksheet.specs.Reading.{CornersReady, CornersRead, RowAtReady, LinksRead, PolygonRead, PolygonReady};
 
 use crate::padding::{put_row16, put_row32};
-use crate::progress::{Progress, stopped};
+use crate::progress::Progress;
 use lines::numbers::read_row;
 use lines::scan::find;
 use lines::tabs::count_cells;
 use sheet::heading::NUMBER_MOST;
+use sheet::refusal::SheetRefusal;
 
 // The most that an area code may be.
 const CODE_MOST: u64 = 255;
 
 // The most that a link may be.
 const LINK_MOST: u64 = 4294967295;
-
-// How many corners a `p` line has, if it is good.
-#[derive(Clone, Copy)]
-pub struct Corners {
-    pub good: bool,
-    pub count: usize,
-}
 
 // How many cells of a `p` line are corners: those behind its name, the region and the area code.
 fn beyond(cells: usize) -> usize
@@ -33,8 +27,8 @@ fn beyond(cells: usize) -> usize
     0
 }
 
-// A `p` line of at most `most` corners: its numbers go to the beginning of `values`, the corners behind region and area code.
-fn corner_cells(line: &[u8], most: usize, values: &mut [u64]) -> Corners
+// How many corners a `p` line has, if it is good and they are at most `most`: its numbers go to the beginning of `values`, the corners behind region and area code.
+fn corner_cells(line: &[u8], most: usize, values: &mut [u64]) -> Option<usize>
     requires { CornersReady most values.old }
     ensures { CornersRead most (parts tab_byte line.now) result values.old values.new }
 {
@@ -44,16 +38,10 @@ fn corner_cells(line: &[u8], most: usize, values: &mut [u64]) -> Corners
         let mut mosts = [NUMBER_MOST; 14];
         mosts[1] = CODE_MOST;
         if read_row(line, b"p", 0, &mosts[..n + 2], values) {
-            return Corners {
-                good: true,
-                count: n,
-            };
+            return Some(n);
         }
     }
-    Corners {
-        good: false,
-        count: 0,
-    }
+    None
 }
 
 // The `n` line of polygon i, which has n corners.
@@ -64,26 +52,25 @@ fn link_line(
     i: usize,
     n: usize,
     links: &mut [u32],
-) -> Progress
+) -> Result<Progress, SheetRefusal>
     requires { RowAtReady text.now p words i n links.old }
     ensures { LinksRead text.now p result words i n links.old links.new }
 {
     let from = p.at;
     let e = find(text, from, b'\n');
     if e >= text.len() {
-        return stopped(p);
+        return Err(SheetRefusal::Malformed(p.line));
     }
     let mosts = [LINK_MOST; 12];
     let mut values = [0u64; 12];
     if read_row(&text[from..e], b"n", 0, &mosts[..n], &mut values) {
         put_row32(links, i * words, words, &values[..n]);
-        return Progress {
-            good: true,
+        return Ok(Progress {
             line: p.line + 1,
             at: e + 1,
-        };
+        });
     }
-    stopped(p)
+    Err(SheetRefusal::Malformed(p.line))
 }
 
 // The two lines of polygon i, whose corners have so many words.
@@ -94,26 +81,23 @@ pub fn polygon_lines(
     i: usize,
     polygons: &mut [u16],
     links: &mut [u32],
-) -> Progress
+) -> Result<Progress, SheetRefusal>
     requires { PolygonReady text.now p words i polygons.old links.old }
     ensures { PolygonRead text.now p result words i polygons.old links.old polygons.new links.new }
 {
     let from = p.at;
     let e = find(text, from, b'\n');
     if e >= text.len() {
-        return stopped(p);
+        return Err(SheetRefusal::Malformed(p.line));
     }
     let mut values = [0u64; 14];
-    let row = corner_cells(&text[from..e], words, &mut values);
-    if row.good {
-        let n = row.count;
-        put_row16(polygons, i * words, words, &values[2..n + 2]);
-        let next = Progress {
-            good: true,
-            line: p.line + 1,
-            at: e + 1,
-        };
-        return link_line(text, next, words, i, n, links);
-    }
-    stopped(p)
+    let n = corner_cells(&text[from..e], words, &mut values).ok_or(SheetRefusal::Malformed(
+        p.line,
+    ))?;
+    put_row16(polygons, i * words, words, &values[2..n + 2]);
+    let next = Progress {
+        line: p.line + 1,
+        at: e + 1,
+    };
+    link_line(text, next, words, i, n, links)
 }

@@ -50,11 +50,7 @@ fn two_to(n: usize) -> u64
     requires { n < 64 }
     ensures { result ≡ 2 ^ n }
 {
-    let mut r = 1u64;
-    for i in 0..n {
-        r *= 2;
-    }
-    r
+    1u64 << n
 }
 
 // Its ten-thousandths of a millimetre, the nearest number of them.

@@ -9,7 +9,6 @@ use native.Mathlib.Omega.{arith}
 use lib.ListN.{length, drop}
 use Rattle.mem.specs.Slice.{view}
 use Rattle.rules.specs.Lines.{tab_byte, lf, parts, Numbers, numbers, malformed, numbers_of}
-use Rattle.lines.specs.declared.line.LineRead.{LineRead}
 use Rattle.lines.specs.Scan.{place_of}
 use Rattle.lines.specs.Read.{said, line_end, reads, line_read, numbers_at}
 use Rattle.lines.specs.Taken.{numbers_at_lem, numbers_open}

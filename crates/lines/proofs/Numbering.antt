@@ -9,7 +9,7 @@ use Prim.Native.Nat.{ℕ, ◌+◌, ◌-◌, ◌≤◌, ◌<◌}
 use native.Mathlib.Nat.{zero-add, sub-zero}
 use native.Mathlib.Omega.{arith}
 use lib.Dec.{eqb}
-use lib.ListN.{length, take, drop, get_or, set, replicate, length-append, length-set, length-replicate, drop_of_length-le}
+use lib.ListN.{length, take, drop, get_or, set, length-append, length-set, drop_of_length-le}
 use lib.Seq.{append_snoc}
 use borrow.Author.Tests.{eqb-true, eqb-false}
 use Rattle.mem.specs.Slice.{view, splice, splice_nil, splice_whole, write_step}

@@ -2,7 +2,6 @@
 ghost use Rattle.std.specs.Prelude.{◌≡◌};
 ghost use Rattle.rules.specs.Lines.{decimal_in};
 
-
 // The number that a cell says: digits, without leading zeros, from `least` to `most`.
 pub fn read_decimal(cell: &[u8], least: u64, most: u64) -> Option<u64>
     ensures { result ≡ decimal_in least most cell.now }

@@ -1,14 +1,8 @@
 // Writes a line to standard output for each point that the job sheet on standard input loses where its contours are mended.
 #![tactic(auto)]
 
-use anyhow::{Context, Result};
-use streams::read_full;
+use streams::answer_input;
 
-fn main(rt: HostRuntime) -> Result<()> {
-    // One byte more than a sheet may have, so that too many show.
-    let mut input = [0u8; 65537];
-    let n = read_full(&mut rt.stdin(), &mut input).context("standard input")?;
-    let mut out = [0u8; 65536];
-    let m = mendsheet::lost_sheet(&input[..n], &mut out);
-    rt.write_all(&out[..m]).context("standard output")
+fn main(rt: HostRuntime) -> anyhow::Result<()> {
+    answer_input(&rt, |text, out| mendsheet::lost_sheet(text, out))
 }

@@ -15,15 +15,13 @@ fn contours_above(lengths: &[u32], k: u32) -> usize
     ensures { (result ≡ contour_lines_above lengths.now k) × (result ≤ length lengths.now) }
 {
     let mut rest = k;
-    let mut c = 0;
-    while c < lengths.len() {
+    for c in 0..lengths.len() {
         if rest < lengths[c] {
             return c + 1;
         }
         rest -= lengths[c];
-        c += 1;
     }
-    c
+    lengths.len()
 }
 
 // The line of the lost vertex k: its number, and its line in the sheet.
@@ -46,8 +44,8 @@ pub fn put_lost(out: &mut [u8], lengths: &[u32], lost: &[u32]) -> usize
     ensures { Printed (lost_text_of lengths.now lost.now) out.old out.new 0 result }
 {
     let mut to = 0;
-    for i in 0..lost.len() {
-        to = put_lost_line(out, to, lengths, lost[i]);
+    for k in lost {
+        to = put_lost_line(out, to, lengths, *k);
     }
     to
 }

@@ -21,14 +21,12 @@ fn sheet_end(text: &[u8], at: usize) -> usize
     requires { at < length text.now }
     ensures { EndsAt text.now at result }
 {
-    let mut i = at + 1;
-    while i < text.len() {
+    for i in at + 1..text.len() {
         if is_gap(text, i) {
             return i;
         }
-        i += 1;
     }
-    i
+    text.len()
 }
 
 // The answer to one sheet, with an empty line behind it.

@@ -15,13 +15,13 @@ use Rattle.mem.specs.Loops.{run, over, over_cong}
 use Rattle.rules.specs.Lines.{Line, lines_of, Numbers, numbers, malformed}
 use Rattle.rules.specs.Job.{job_stride, sum_over, count_all}
 use Rattle.rules.specs.Sheet.{number_most, code_most, heading_lines, contour_name, v_name, Sheet, Read, taken, bad, need, too_many, with_contour, with_vertex, contour_numbers, vertex_numbers, read_body}
-use Rattle.lines.specs.Read.{line_end, numbers_at}
+use Rattle.lines.specs.Read.{numbers_at}
 use Rattle.lines.specs.Taken.{line_some, line_missing, limited}
 use Rattle.lines.specs.Taken as lines
 use Rattle.sheet.specs.declared.body.Progress.{Progress}
 use Rattle.sheet.specs.Needs.{need_bad, need_good}
 use Rattle.sheet.specs.Reading.{with_lists, so_far, rest_of, rest_as, end_as, contour_at, vertex_line_at, is_over, past_contour, after_contour, put_contour, past_vertex, after_vertex}
-use Rattle.sheet.specs.Reading.{Moved, Further, Counted, CountedAs}
+use Rattle.sheet.specs.Reading.{Moved, Further, CountedAs}
 use Rattle.sheet.specs.declared.refusal.SheetRefusal.{SheetRefusal}
 use Rattle.sheet.specs.declared.refusal.SheetRefusal.TheVariants.{Malformed, TooMany}
 use Rattle.sheet.specs.Refusals.{number_of, line_of, refused_as}
@@ -128,21 +128,23 @@ module _ {text : List ℕ} {p : Progress} {ls rs cs ns : List ℕ} (ready : Line
           let region = take_more rs p.contours (get_or ms 0 0) (omega (arith, f.0, t.regions)) in
           let code = take_more cs p.contours (get_or ms 1 0) (omega (arith, f.0, t.codes)) in
           record {
-            moved = record { standing = record {
-              within = record {
-                inside = l.within;
-                short = t.within.short;
-                small = omega (arith, t.within.small, l.further);
-                few = omega (arith, f.0);
-                room = f.1;
+            moved = record {
+              standing = record {
+                within = record {
+                  inside = l.within;
+                  short = t.within.short;
+                  small = omega (arith, t.within.small, l.further);
+                  few = omega (arith, f.0);
+                  room = f.1;
+                };
+                lengths = length-set ls p.contours (get_or ms 2 0) ∙ t.lengths;
+                regions = length-set rs p.contours (get_or ms 0 0) ∙ t.regions;
+                codes = length-set cs p.contours (get_or ms 1 0) ∙ t.codes;
+                numbers = t.numbers;
+                declared = rw more (omega (arith, sum_snoc (take p.contours ls) (get_or ms 2 0), t.declared));
               };
-              lengths = length-set ls p.contours (get_or ms 2 0) ∙ t.lengths;
-              regions = length-set rs p.contours (get_or ms 0 0) ∙ t.regions;
-              codes = length-set cs p.contours (get_or ms 1 0) ∙ t.codes;
-              numbers = t.numbers;
-              declared = rw more (omega (arith, sum_snoc (take p.contours ls) (get_or ms 2 0), t.declared));
+              further = l.further;
             };
-            further = l.further; };
             same = λ s.
                 contour_on_lem s
                 ∙ rw (over_is s (get_or ms 2 0) ∙ o, contour_on)
@@ -176,21 +178,23 @@ module _ {text : List ℕ} {p : Progress} {ls rs cs ns : List ℕ} (ready : Line
         let four = (limited v_name 0 mosts l.line ms l.says).long in
         let more = take_splice_end ns (p.vertices * job_stride) ((p.vertices + 1) * job_stride) ms (omega arith) (omega (arith, t.within.room, t.numbers)) in
         record {
-          moved = record { standing = record {
-            within = record {
-              inside = l.within;
-              short = t.within.short;
-              small = omega (arith, t.within.small, l.further);
-              few = t.within.few;
-              room = omega (arith, t.within.room);
+          moved = record {
+            standing = record {
+              within = record {
+                inside = l.within;
+                short = t.within.short;
+                small = omega (arith, t.within.small, l.further);
+                few = t.within.few;
+                room = omega (arith, t.within.room);
+              };
+              lengths = t.lengths;
+              regions = t.regions;
+              codes = t.codes;
+              numbers = length_splice ns (p.vertices * job_stride) ms ∙ t.numbers;
+              declared = omega (arith, t.declared);
             };
-            lengths = t.lengths;
-            regions = t.regions;
-            codes = t.codes;
-            numbers = length_splice ns (p.vertices * job_stride) ms ∙ t.numbers;
-            declared = omega (arith, t.declared);
+            further = l.further;
           };
-          further = l.further; };
           same = λ s.
               at_vertex due (so_far s p ls rs cs ns)
               ∙ need_good p.line _ e

@@ -1,6 +1,6 @@
 -- The heading lines, one after the other: a line that is bad is the refusal, and behind a good one the heading comes to what the lines that are left come to.
 -- A line of a name and one word is known by its whole text, since its cells joined by tabs are the text again. Assumes nothing.
-use Rattle.std.specs.Prelude.{Option, Some, None, Result, Ok, Err}
+use Rattle.std.specs.Prelude.{Option, Some, None, Result, Ok}
 use mathlib.Core.Path.{◌≡◌, refl, sym, ap, ◌∙◌, subst}
 use mathlib.Core.Bool.{Bool, true, false, true≢false}
 use mathlib.Core.List.{List, [], ◌∷◌, ◌++◌}

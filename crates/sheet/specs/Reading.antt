@@ -1,5 +1,5 @@
 -- How far a sheet has been read, and what the rest of it comes to. Definitions only.
-use Rattle.std.specs.Prelude.{◌≡◌, Bool, true, false, ◌||◌, cond, List, [], ◌∷◌, ℕ, ◌+◌, ◌-◌, ◌*◌, ◌≤◌, ◌<◌,  ltb, length, take, drop, get_or, set, Option, Some, None, Result, Ok, Err}
+use Rattle.std.specs.Prelude.{◌≡◌, Bool, true, false, ◌||◌, cond, List, [], ◌∷◌, ℕ, ◌+◌, ◌-◌, ◌*◌, ◌≤◌, ◌<◌, ltb, length, take, drop, get_or, set, Option, Some, None, Result, Ok, Err}
 use Prim.{Unit}
 use Rattle.mem.specs.Slice.{splice}
 use Rattle.rules.specs.Lines.{Line, lines_of, Numbers, numbers, malformed}

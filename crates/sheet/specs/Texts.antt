@@ -1,13 +1,12 @@
 -- What the bytes of a sheet come to, for each way that the reading ends; and what is printed for them by f, for any f. Assumes nothing.
 -- Key: `long_read`, `bad_heading`, `good_heading`, `bad_body`, `good_body`: the reading; `bad_as`, `taken_as`: its answer; `text_read`,
 -- `bad_text`, `taken_text`: what is printed, for any reader.
-use Rattle.std.specs.Prelude.{◌≡◌, Bool, List, ℕ, ◌+◌, ◌*◌, ◌≤◌, ◌<◌, ltb, length, take, Result, Ok, Err}
+use Rattle.std.specs.Prelude.{◌≡◌, Bool, List, ℕ, ◌+◌, ◌≤◌, ◌<◌, ltb, length, take, Result, Ok, Err}
 use Rattle.std.proofs.Math.Path.{refl, ap, subst}
-use Rattle.std.proofs.Common.{sym, ◌∙◌, lt-ltb, le-ltb, eq-eqb, ne_eqb}
+use Rattle.std.proofs.Common.{sym, ◌∙◌, lt-ltb, le-ltb}
 use Rattle.std.proofs.Math.Bool.{true, false}
 use native.Mathlib.Omega.{arith}
 use Rattle.rules.specs.Lines.{Line, lines_of}
-use Rattle.rules.specs.Job.{job_stride}
 use Rattle.rules.specs.Sheet.{bytes_most, heading_lines, Sheet, Read, taken, bad, and_then, read_body, read_heading, read_sheet, refused_text, read_text, text_by}
 use Rattle.lines.specs.Print.{Printed}
 use Rattle.lines.specs.Printing.{printed_as}

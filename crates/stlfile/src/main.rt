@@ -1,14 +1,8 @@
 // Meshes the job sheet on standard input, and writes the mesh as a binary STL to standard output; or the refusal's line.
 #![tactic(auto)]
 
-use anyhow::{Context, Result};
-use streams::read_full;
+use streams::answer_input;
 
-fn main(rt: HostRuntime) -> Result<()> {
-    // One byte more than a sheet may have, so that too many show.
-    let mut input = [0u8; 65537];
-    let n = read_full(&mut rt.stdin(), &mut input).context("standard input")?;
-    let mut out = [0u8; 65536];
-    let m = stlsheet::stl_sheet(&input[..n], &mut out);
-    rt.write_all(&out[..m]).context("standard output")
+fn main(rt: HostRuntime) -> anyhow::Result<()> {
+    answer_input(&rt, |text, out| stlsheet::stl_sheet(text, out))
 }

@@ -1,5 +1,5 @@
 -- `checksheet::claim::read_mesh` meets its contract: the mesh line, and what is behind it. Assumes nothing.
-use Rattle.lines.specs.Exits.{found_or, refused_or}
+use Rattle.lines.specs.Exits.{found_or, refused_or, passed_on}
 use Rattle.checksheet.proofs.MeshesRead.{mesh_open, mesh_missed, lists_asked, mesh_claimed, mesh_unread}
 use Rattle.checksheet.proofs.claim.read_mesh.Goals as goal
 
@@ -12,17 +12,18 @@ returns-in_err-mesh c =
     let none = refused_or _ _ _ c.ok_or.ensures.value c.in_err-mesh.was c.from_residual.ensures.1 in
     rw none.1 (mesh_missed c.args.text.now c.args.x c.find-e.ensures.0 c.if-e-text.false c.mesh_cells.ensures none.0 _ _ _)
 
-pub read_lists-p-requires : goal.read_lists-p-requires
-read_lists-p-requires c =
+pub read_lists-requires : goal.read_lists-requires
+read_lists-requires c =
     lists_asked c.args.text.now c.args.x c.find-e.ensures.0 c.if-e-text.false c.mesh_cells.ensures
     (found_or _ _ c.ok_or.ensures.value c.in_ok-mesh.was) c.requires c.row_words-words.ensures
 
-pub returns-then-p : goal.returns-then-p
-returns-then-p c =
-    mesh_claimed c.args.text.now c.args.x c.find-e.ensures.0 c.if-e-text.false c.mesh_cells.ensures
-    (found_or _ _ c.ok_or.ensures.value c.in_ok-mesh.was) c.row_words-words.ensures c.read_lists-p.ensures c.if-p.true
+pub returns-in_err-read_lists : goal.returns-in_err-read_lists
+returns-in_err-read_lists c =
+    rw (passed_on _ c.from_residual-in_err-read_lists.ensures.1)
+    (mesh_unread c.args.text.now c.args.x c.find-e.ensures.0 c.if-e-text.false c.mesh_cells.ensures
+    (found_or _ _ c.ok_or.ensures.value c.in_ok-mesh.was) c.row_words-words.ensures c.read_lists.ensures c.in_err-read_lists.was)
 
 pub returns : goal.returns
 returns c =
-    mesh_unread c.args.text.now c.args.x c.find-e.ensures.0 c.if-e-text.false c.mesh_cells.ensures
-    (found_or _ _ c.ok_or.ensures.value c.in_ok-mesh.was) c.row_words-words.ensures c.read_lists-p.ensures c.if-p.false
+    mesh_claimed c.args.text.now c.args.x c.find-e.ensures.0 c.if-e-text.false c.mesh_cells.ensures
+    (found_or _ _ c.ok_or.ensures.value c.in_ok-mesh.was) c.row_words-words.ensures c.read_lists.ensures c.in_ok-read_lists.was

@@ -11,7 +11,7 @@ use Rattle.checksheet.proofs.RowLines.{LinksGood, links_good, links_none, links_
 use Rattle.checksheet.proofs.rows.link_line.Goals as goal
 
 pub returns-then-e-text : goal.returns-then-e-text
-returns-then-e-text c = links_open c.requires c.find-e.ensures.0 c.if-e-text.true c.stopped.ensures
+returns-then-e-text c = links_open c.requires c.find-e.ensures.0 c.if-e-text.true
 
 pub read_row-requires : goal.read_row-requires
 read_row-requires c =
@@ -48,4 +48,4 @@ unfolding n_name ascii
 returns c =
     let few : c.args.n ≤ 12 = omega (arith, c.requires.corners, c.requires.few) in
     links_missed c.requires c.find-e.ensures.0 c.if-e-text.false
-    (links_none c.args.n _ (few) c.read_row.ensures c.if-read_row.false) c.stopped-2.ensures
+    (links_none c.args.n _ (few) c.read_row.ensures c.if-read_row.false)

@@ -5,52 +5,53 @@ use native.Mathlib.Omega.{arith}
 use lib.ListN.{replicate}
 use Rattle.mem.specs.Slice.{view}
 use Rattle.rules.specs.Lines.{tab_byte, parts}
+use Rattle.lines.specs.Exits.{found_or, refused_or}
 use Rattle.checksheet.specs.Reading.{CornersAre}
-use Rattle.checksheet.proofs.RowLines.{corners_ready}
+use Rattle.checksheet.proofs.RowLines.{corners_are, corners_missed, corners_ready}
 use Rattle.checksheet.proofs.PolygonLines.{polygon_open, polygon_missed, links_asked, polygon_put}
 use borrow.Author.Rules.{rules}
 use Rattle.checksheet.proofs.rows.polygon_lines.Goals as goal
 
 pub returns-then-e-text : goal.returns-then-e-text
 returns-then-e-text c =
-    polygon_open c.requires c.find-e.ensures.0 c.if-e-text.true c.stopped.ensures
+    polygon_open c.requires c.find-e.ensures.0 c.if-e-text.true
 
 pub overflow_add-n : goal.overflow_add-n
 overflow_add-n c =
     let good_line : CornersAre c.args.words (parts tab_byte (view c.args.text.now c.args.p.at (c.find-e.result - c.args.p.at)))
-    c.corner_cells-row.result.count (replicate 14 0) c.corner_cells-row.new.values = c.corner_cells-row.ensures.found c.if-row.true in
-    let few : c.corner_cells-row.result.count ≤ 12 = omega (arith, (good_line).few, c.requires.few) in
+    c.in_ok-n.n (replicate 14 0) c.corner_cells.new.values = corners_are _ _ _ _ c.corner_cells.ensures (found_or _ _ c.ok_or.ensures.value c.in_ok-n.was) in
+    let few : c.in_ok-n.n ≤ 12 = omega (arith, (good_line).few, c.requires.few) in
     record { fits = omega (arith, few) }
 
 pub slice_bounds-put_row16-end : goal.slice_bounds-put_row16-end
 slice_bounds-put_row16-end c =
     let good_line : CornersAre c.args.words (parts tab_byte (view c.args.text.now c.args.p.at (c.find-e.result - c.args.p.at)))
-    c.corner_cells-row.result.count (replicate 14 0) c.corner_cells-row.new.values = c.corner_cells-row.ensures.found c.if-row.true in
-    let few : c.corner_cells-row.result.count ≤ 12 = omega (arith, (good_line).few, c.requires.few) in
+    c.in_ok-n.n (replicate 14 0) c.corner_cells.new.values = corners_are _ _ _ _ c.corner_cells.ensures (found_or _ _ c.ok_or.ensures.value c.in_ok-n.was) in
+    let few : c.in_ok-n.n ≤ 12 = omega (arith, (good_line).few, c.requires.few) in
     let f = few in search rules
 
 pub put_row16-requires : goal.put_row16-requires
 put_row16-requires c =
     let good_line : CornersAre c.args.words (parts tab_byte (view c.args.text.now c.args.p.at (c.find-e.result - c.args.p.at)))
-    c.corner_cells-row.result.count (replicate 14 0) c.corner_cells-row.new.values = c.corner_cells-row.ensures.found c.if-row.true in
-    let n = c.corner_cells-row.result.count in
+    c.in_ok-n.n (replicate 14 0) c.corner_cells.new.values = corners_are _ _ _ _ c.corner_cells.ensures (found_or _ _ c.ok_or.ensures.value c.in_ok-n.was) in
+    let n = c.in_ok-n.n in
     corners_ready (good_line) refl c.requires.few c.args.i (n + 2 - 2) (omega arith) (omega arith) c.requires.room
 
 pub link_line-requires : goal.link_line-requires
 link_line-requires c =
     let good_line : CornersAre c.args.words (parts tab_byte (view c.args.text.now c.args.p.at (c.find-e.result - c.args.p.at)))
-    c.corner_cells-row.result.count (replicate 14 0) c.corner_cells-row.new.values = c.corner_cells-row.ensures.found c.if-row.true in
+    c.in_ok-n.n (replicate 14 0) c.corner_cells.new.values = corners_are _ _ _ _ c.corner_cells.ensures (found_or _ _ c.ok_or.ensures.value c.in_ok-n.was) in
     links_asked c.requires c.find-e.ensures.0 c.if-e-text.false (good_line).few
-
-pub returns-then-row : goal.returns-then-row
-returns-then-row c =
-    let good_line : CornersAre c.args.words (parts tab_byte (view c.args.text.now c.args.p.at (c.find-e.result - c.args.p.at)))
-    c.corner_cells-row.result.count (replicate 14 0) c.corner_cells-row.new.values = c.corner_cells-row.ensures.found c.if-row.true in
-    let n = c.corner_cells-row.result.count in
-    polygon_put c.requires c.find-e.ensures.0 c.if-e-text.false (good_line) refl (n + 2 - 2) (omega arith) c.put_row16.ensures
-    c.link_line.ensures
 
 pub returns : goal.returns
 returns c =
-    polygon_missed c.requires c.find-e.ensures.0 c.if-e-text.false (c.corner_cells-row.ensures.none c.if-row.false)
-    c.stopped-2.ensures
+    let good_line : CornersAre c.args.words (parts tab_byte (view c.args.text.now c.args.p.at (c.find-e.result - c.args.p.at)))
+    c.in_ok-n.n (replicate 14 0) c.corner_cells.new.values = corners_are _ _ _ _ c.corner_cells.ensures (found_or _ _ c.ok_or.ensures.value c.in_ok-n.was) in
+    let n = c.in_ok-n.n in
+    polygon_put c.requires c.find-e.ensures.0 c.if-e-text.false (good_line) refl (n + 2 - 2) (omega arith) c.put_row16.ensures
+    c.link_line.ensures
+
+pub returns-in_err-n : goal.returns-in_err-n
+returns-in_err-n c =
+    let none = refused_or _ _ _ c.ok_or.ensures.value c.in_err-n.was c.from_residual.ensures.1 in
+    rw none.1 (polygon_missed c.requires c.find-e.ensures.0 c.if-e-text.false (corners_missed _ _ _ _ c.corner_cells.ensures none.0))

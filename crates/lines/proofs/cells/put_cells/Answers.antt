@@ -1,5 +1,4 @@
-use mathlib.Core.Path.{ap, sym}
-use native.Mathlib.Omega.{arith}
+use mathlib.Core.Path.{ap}
 use Rattle.rules.specs.Lines.{cell}
 use Rattle.lines.specs.Printing.{printed_as, room_as}
 use Rattle.lines.proofs.CellLoop.{left_begin, left_room, left_more, left_end}

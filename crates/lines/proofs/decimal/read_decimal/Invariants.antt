@@ -1,7 +1,5 @@
 -- `lines::decimal::read_decimal` meets its contract. The loop's invariant is `Reading`: the answer is that of the digits that are left, and the number so far is
 -- within its limit, so that nothing wraps. Assumes nothing.
-use Prim.Native.Nat.{◌-◌}
-use lib.ListN.{length}
 use Rattle.lines.proofs.Decimals.{Reading}
 use Rattle.lines.proofs.decimal.read_decimal.Given as goal
 

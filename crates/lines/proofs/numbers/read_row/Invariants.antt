@@ -1,7 +1,5 @@
 -- `lines::numbers::read_row` meets its contract. The loop's invariant is `Numbering`: the numbers are those so far, and then those of the cells that are left.
 -- Assumes nothing.
-use Prim.Native.Nat.{◌-◌}
-use lib.ListN.{length}
 use Rattle.lines.proofs.Numbering.{Numbering}
 use Rattle.lines.proofs.numbers.read_row.Given as goal
 

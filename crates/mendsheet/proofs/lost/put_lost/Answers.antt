@@ -3,17 +3,17 @@ use Rattle.lines.specs.Pieces.{pieces_none, pieces_room, pieces_more, pieces_all
 use Rattle.mendsheet.specs.Print.{lost_text_of}
 use Rattle.mendsheet.proofs.lost.put_lost.Goals as goal
 
-pub loop-i-init : goal.loop-i-init
+pub loop-k-init : goal.loop-k-init
 unfolding lost_text_of
-loop-i-init c = pieces_none _ _ refl c.requires.room
+loop-k-init c = pieces_none _ _ refl c.requires.room
 
 pub put_lost_line-to-requires : goal.put_lost_line-to-requires
 put_lost_line-to-requires c =
-    record { few = c.requires.few; room = pieces_room c.loop-i.invariant c.loop-i-test.true }
+    record { few = c.requires.few; room = pieces_room c.loop-k.invariant c.loop-k-test.true }
 
-pub loop-i-preserved : goal.loop-i-preserved
-loop-i-preserved c =
-    pieces_more c.loop-i.invariant c.loop-i-test.true c.put_lost_line-to.ensures
+pub loop-k-preserved : goal.loop-k-preserved
+loop-k-preserved c =
+    pieces_more c.loop-k.invariant c.loop-k-test.true c.put_lost_line-to.ensures
 
 pub returns : goal.returns
-returns c = pieces_all c.loop-i.invariant c.loop-i-test.false
+returns c = pieces_all c.loop-k.invariant c.loop-k-test.false

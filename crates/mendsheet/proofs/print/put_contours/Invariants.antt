@@ -1,6 +1,4 @@
 -- `mendsheet::print::put_contours` meets its contract. The loop's invariant is `Contours`: the contours from c on are left to print. Assumes nothing.
-use Prim.Native.Nat.{◌-◌}
-use lib.ListN.{length}
 use Rattle.mendsheet.proofs.SheetTexts.{Contours}
 use Rattle.mendsheet.proofs.print.put_contours.Given as goal
 

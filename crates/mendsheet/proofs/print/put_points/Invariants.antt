@@ -1,5 +1,4 @@
 -- `mendsheet::print::put_points` meets its contract: the loop prints the lines one behind the other, line k of the four words of vertex k. Assumes nothing.
-use Prim.Native.Nat.{◌-◌}
 use Rattle.rules.specs.MendSheet.{traced_line}
 use Rattle.lines.specs.Pieces.{texts_from, Pieces}
 use Rattle.mendsheet.proofs.print.put_points.Given as goal

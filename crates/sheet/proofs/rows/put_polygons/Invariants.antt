@@ -1,6 +1,5 @@
 -- `sheet::rows::put_polygons` meets its contract: the loop prints the lines one behind the other, those of polygon i of its words up to the first 65,535.
 -- Assumes nothing.
-use Prim.Native.Nat.{◌-◌}
 use Rattle.lines.specs.Pieces.{Pieces}
 use Rattle.sheet.specs.Rows.{polygon_rows}
 use Rattle.sheet.proofs.RowLoops.{polygon_row}

@@ -1,5 +1,4 @@
 -- `sheet::rows::put_top` meets its contract: the line of the unit, and that of the cell. Assumes nothing.
-use mathlib.Core.Path.{refl}
 use Rattle.rules.specs.Lines.{ascii}
 use Rattle.rules.specs.Sheet.{cell_name}
 use Rattle.lines.specs.Pieces.{Going, going_begin, going_room, going_more, going_end}

@@ -1,5 +1,4 @@
 -- `sheet::rows::put_vertices` meets its contract: the loop prints the lines one behind the other, line i of the three words of vertex i. Assumes nothing.
-use Prim.Native.Nat.{◌-◌}
 use Rattle.lines.specs.Pieces.{Pieces}
 use Rattle.sheet.specs.Rows.{vertex_rows}
 use Rattle.sheet.proofs.RowLoops.{vertex_row}
