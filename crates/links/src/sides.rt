@@ -132,7 +132,8 @@ fn take_sides<S: Step>(
     ne: usize,
 ) -> usize
     requires { Sides work.old o np nv t × Edged work.old t nv ne × Room work.old t nv (ne + S.added (corners_in (polygons_at work.old o np))) }
-    ensures { Rewritten work.old work.new t nv ne (each (each_of S.made (polygons_at work.old o np)) 0 np (edges_at work.old t.edges ne)) (S.added (corners_in (polygons_at work.old o np))) result }
+    ensures { Rewritten work.old work.new t nv ne (each (each_of S.made (polygons_at work.old o np)) 0 np (edges_at work.old t.edges ne))
+        (S.added (corners_in (polygons_at work.old o np))) result }
 {
     let mut n = ne;
     for i in 0..np {
