@@ -3,8 +3,11 @@ ghost use Rattle.std.specs.Prelude.{◌≡◌, ℕ, ◌≤◌, length};
 ghost use Rattle.rules.specs.Job.{sum_over};
 ghost use Rattle.rules.specs.Checks.{counts_agree};
 ghost use Rattle.checks.specs.declared.counts.Part.TheVariants.{Points, Triangles};
+ghost use Rattle.rules.specs.declared.Grid.{Grid};
 ghost use Rattle.checks.specs.Sums.{part_of, sum_all, sum_v, sum_t, Added, Total};
-ghost use Rattle.checks.specs.Answers.{job_of};
+ghost use Rattle.checks.specs.Answers.{job_in};
+
+use crate::contour_set::ContourSet;
 
 // How many numbers a vertex of a job has: x, y, z and its flag.
 pub const JOB_STRIDE: usize = 4;
@@ -83,13 +86,13 @@ pub fn count_t(lengths: &[u32]) -> usize
 
 // Whether there is a region and a code for each length, four numbers for each vertex, and not too many contours. These are
 // counted before anything is summed, so that no sum wraps.
-pub fn counts_agree(lengths: &[u32], regions: &[u16], codes: &[u8], numbers: &[u16]) -> bool
-    ensures { (nvp w h border : ℕ) → result ≡ counts_agree (job_of nvp w h border lengths.now regions.now codes.now numbers.now) }
+pub fn counts_agree(set: &ContourSet<'_>) -> bool
+    ensures { (nvp : ℕ) (grid : Grid) → result ≡ counts_agree (job_in nvp grid set.now) }
 {
-    let n = lengths.len();
+    let n = set.lengths.len();
     if MOST_CONTOURS < n {
         return false;
     }
-    let all = count_all(lengths) * JOB_STRIDE;
-    (regions.len() == n) & ((codes.len() == n) & (numbers.len() == all))
+    let all = count_all(set.lengths) * JOB_STRIDE;
+    (set.regions.len() == n) & ((set.codes.len() == n) & (set.numbers.len() == all))
 }
