@@ -8,9 +8,10 @@ use crate::header::header_of;
 use crate::heading::Heading;
 use crate::mesh::put_mesh;
 use crate::rows::{put_refused, put_top};
+use checks::contour_set::ContourSet;
 use polymesh::mesh::into_polygon_mesh;
 use polymesh::replies::{refusal_number, refusal_second};
-use rules::Reply;
+use rules::{Grid, Reply};
 
 // The text for a reply of the build; with reply 0 the mesh stands in the buffers.
 fn put_reply(
@@ -49,14 +50,11 @@ fn put_reply(
 // The text for a heading and the contours behind it. The buffers have room for 96 vertices and 96 polygons of 12 corners.
 pub fn answer_job(
     x: Heading,
-    lengths: &[u32],
-    regions: &[u16],
-    codes: &[u8],
-    numbers: &[u16],
+    set: &ContourSet<'_>,
     out: &mut [u8],
 ) -> usize
-    requires { JobReady lengths.now out.old }
-    ensures printed { Printed (job_text x lengths.now regions.now codes.now numbers.now) out.old out.new 0 result }
+    requires { JobReady set.now.lengths.now out.old }
+    ensures printed { Printed (job_text x set.now.lengths.now set.now.regions.now set.now.codes.now set.now.numbers.now) out.old out.new 0 result }
     ensures short { result ≤ out_most }
 {
     let mut vertices = [0u16; 288];
@@ -66,17 +64,17 @@ pub fn answer_job(
     let mut polycodes = [0u8; 96];
     let mut flags = [0u16; 96];
     let mut work = [0u32; 16384];
+    let grid = Grid {
+        w: x.w,
+        h: x.h,
+        border: x.border,
+    };
     let header = header_of(x.inches, x.size, x.height);
     let answer = into_polygon_mesh(
         header,
         x.nvp,
-        x.w,
-        x.h,
-        x.border,
-        lengths,
-        regions,
-        codes,
-        numbers,
+        grid,
+        set,
         &mut vertices,
         &mut polygons,
         &mut neighbours,

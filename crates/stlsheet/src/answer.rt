@@ -5,9 +5,10 @@ ghost use Rattle.sheet.specs.Room.{out_most};
 ghost use Rattle.stlsheet.specs.Carving.{ReplyReady, reply_file, CarveJobReady, job_file};
 
 use crate::file::put_carved;
+use checks::contour_set::ContourSet;
 use polymesh::mesh::into_polygon_mesh;
 use polymesh::replies::{refusal_number, refusal_second};
-use rules::Reply;
+use rules::{Grid, Reply};
 use sheet::header::header_of;
 use sheet::heading::Heading;
 use sheet::rows::put_refused;
@@ -42,14 +43,11 @@ fn put_reply(
 // What is written for a heading and the contours behind it. The buffers have room for 96 vertices and 96 polygons of 12 corners.
 pub fn carve_job(
     x: Heading,
-    lengths: &[u32],
-    regions: &[u16],
-    codes: &[u8],
-    numbers: &[u16],
+    set: &ContourSet<'_>,
     out: &mut [u8],
 ) -> usize
-    requires { CarveJobReady lengths.now out.old }
-    ensures printed { Printed (job_file x lengths.now regions.now codes.now numbers.now)
+    requires { CarveJobReady set.now.lengths.now out.old }
+    ensures printed { Printed (job_file x set.now.lengths.now set.now.regions.now set.now.codes.now set.now.numbers.now)
         out.old out.new 0 result }
     ensures short { result ≤ out_most }
 {
@@ -60,17 +58,17 @@ pub fn carve_job(
     let mut polycodes = [0u8; 96];
     let mut flags = [0u16; 96];
     let mut work = [0u32; 16384];
+    let grid = Grid {
+        w: x.w,
+        h: x.h,
+        border: x.border,
+    };
     let header = header_of(x.inches, x.size, x.height);
     let answer = into_polygon_mesh(
         header,
         x.nvp,
-        x.w,
-        x.h,
-        x.border,
-        lengths,
-        regions,
-        codes,
-        numbers,
+        grid,
+        set,
         &mut vertices,
         &mut polygons,
         &mut neighbours,
