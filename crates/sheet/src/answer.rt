@@ -50,11 +50,14 @@ fn put_reply(
 // The text for a heading and the contours behind it. The buffers have room for 96 vertices and 96 polygons of 12 corners.
 pub fn answer_job(
     x: Heading,
-    set: &ContourSet<'_>,
+    lengths: &[u32],
+    regions: &[u16],
+    codes: &[u8],
+    numbers: &[u16],
     out: &mut [u8],
 ) -> usize
-    requires { JobReady set.now.lengths.now out.old }
-    ensures printed { Printed (job_text x set.now.lengths.now set.now.regions.now set.now.codes.now set.now.numbers.now) out.old out.new 0 result }
+    requires { JobReady lengths.now out.old }
+    ensures printed { Printed (job_text x lengths.now regions.now codes.now numbers.now) out.old out.new 0 result }
     ensures short { result ≤ out_most }
 {
     let mut vertices = [0u16; 288];
@@ -69,12 +72,18 @@ pub fn answer_job(
         h: x.h,
         border: x.border,
     };
+    let set = ContourSet {
+        lengths,
+        regions,
+        codes,
+        numbers,
+    };
     let header = header_of(x.inches, x.size, x.height);
     let answer = into_polygon_mesh(
         header,
         x.nvp,
         grid,
-        set,
+        &set,
         &mut vertices,
         &mut polygons,
         &mut neighbours,

@@ -6,7 +6,6 @@ ghost use Rattle.lines.specs.Print.{Printed};
 use crate::answer::answer_job;
 use crate::read::read_sheet;
 use crate::rows::put_sheet_refused;
-use checks::contour_set::ContourSet;
 
 // What is printed for a sheet: its bytes in, and the text at the beginning of `out`. Any bytes may be handed in. The answer is the
 // text's length.
@@ -20,14 +19,13 @@ pub fn mesh_sheet(text: &[u8], out: &mut [u8; 65536]) -> usize
     let mut numbers = [0u16; 384];
     match read_sheet(text, &mut lengths, &mut regions, &mut codes, &mut numbers) {
         Err(refusal) => put_sheet_refused(out, refusal),
-        Ok(sheet) => {
-            let set = ContourSet {
-                lengths: &lengths[..sheet.contours],
-                regions: &regions[..sheet.contours],
-                codes: &codes[..sheet.contours],
-                numbers: &numbers[..sheet.vertices * 4],
-            };
-            answer_job(sheet.heading, &set, out)
-        }
+        Ok(sheet) => answer_job(
+            sheet.heading,
+            &lengths[..sheet.contours],
+            &regions[..sheet.contours],
+            &codes[..sheet.contours],
+            &numbers[..sheet.vertices * 4],
+            out,
+        ),
     }
 }

@@ -43,11 +43,14 @@ fn put_reply(
 // What is written for a heading and the contours behind it. The buffers have room for 96 vertices and 96 polygons of 12 corners.
 pub fn carve_job(
     x: Heading,
-    set: &ContourSet<'_>,
+    lengths: &[u32],
+    regions: &[u16],
+    codes: &[u8],
+    numbers: &[u16],
     out: &mut [u8],
 ) -> usize
-    requires { CarveJobReady set.now.lengths.now out.old }
-    ensures printed { Printed (job_file x set.now.lengths.now set.now.regions.now set.now.codes.now set.now.numbers.now)
+    requires { CarveJobReady lengths.now out.old }
+    ensures printed { Printed (job_file x lengths.now regions.now codes.now numbers.now)
         out.old out.new 0 result }
     ensures short { result ≤ out_most }
 {
@@ -63,12 +66,18 @@ pub fn carve_job(
         h: x.h,
         border: x.border,
     };
+    let set = ContourSet {
+        lengths,
+        regions,
+        codes,
+        numbers,
+    };
     let header = header_of(x.inches, x.size, x.height);
     let answer = into_polygon_mesh(
         header,
         x.nvp,
         grid,
-        set,
+        &set,
         &mut vertices,
         &mut polygons,
         &mut neighbours,

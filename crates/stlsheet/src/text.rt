@@ -4,7 +4,6 @@ ghost use Rattle.rules.specs.StlText.{stl_text};
 ghost use Rattle.lines.specs.Print.{Printed};
 
 use crate::answer::carve_job;
-use checks::contour_set::ContourSet;
 use sheet::read::read_sheet;
 use sheet::rows::put_sheet_refused;
 
@@ -20,14 +19,13 @@ pub fn stl_sheet(text: &[u8], out: &mut [u8; 65536]) -> usize
     let mut numbers = [0u16; 384];
     match read_sheet(text, &mut lengths, &mut regions, &mut codes, &mut numbers) {
         Err(refusal) => put_sheet_refused(out, refusal),
-        Ok(sheet) => {
-            let set = ContourSet {
-                lengths: &lengths[..sheet.contours],
-                regions: &regions[..sheet.contours],
-                codes: &codes[..sheet.contours],
-                numbers: &numbers[..sheet.vertices * 4],
-            };
-            carve_job(sheet.heading, &set, out)
-        }
+        Ok(sheet) => carve_job(
+            sheet.heading,
+            &lengths[..sheet.contours],
+            &regions[..sheet.contours],
+            &codes[..sheet.contours],
+            &numbers[..sheet.vertices * 4],
+            out,
+        ),
     }
 }
