@@ -1,7 +1,6 @@
 -- A job of the numbers that are handed in, the verdict, and the searches and the least lengths over those numbers. Assumes nothing.
 -- Key: `is_passed`, `is_refusal`: what a verdict says of the rules' check; `high_is`, `flag_is`, `least_is`: searches and lengths are the rules'.
 use Rattle.std.specs.Prelude.{◌≡◌, refl, List, [], ◌∷◌, ℕ, ◌+◌, ◌*◌, ◌≤◌, ltb, Option, None, Result, Ok, Err, ⊤}
-use Rattle.std.proofs.Common.{arith}
 use Rattle.mem.specs.Loops.{over}
 use Rattle.rules.specs.Lists.{when, or_else}
 use Rattle.rules.specs.Job.{Job, vertex_at, flag_at, count_all, count_v, count_t}

@@ -1,6 +1,6 @@
 -- The sums over the contours' lengths: all vertices, V and T of a list of lengths. Assumes nothing.
 -- Key: `all_is`, `v_is`, `t_is`: they are the rules' of any job with that list.
-use Rattle.std.specs.Prelude.{◌≡◌, refl, cond, List, ℕ, ◌-◌, ◌^◌, ◌≤◌, ◌<◌, leb}
+use Rattle.std.specs.Prelude.{◌≡◌, refl, cond, List, ℕ, ◌-◌, ◌^◌, ◌<◌, leb}
 use Rattle.rules.specs.Job.{Job, sum_over, count_all, count_v, count_t}
 
 -- what a contour of n vertices adds to V and to T

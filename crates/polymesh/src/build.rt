@@ -27,13 +27,7 @@ fn wipe(work: &mut [u32])
 
 // A job with these numbers has passed the checks, and the work buffer has as many words as it uses: the contours become a
 // mesh there, and the marked vertices are tried. The result is the build's reply, and with a mesh it stands there.
-fn gather_mesh(
-    work: &mut [u32],
-    v: usize,
-    t: usize,
-    nvp: usize,
-    set: &ContourSet<'_>,
-) -> Reply
+fn gather_mesh(work: &mut [u32], v: usize, t: usize, nvp: usize, set: &ContourSet<'_>) -> Reply
     requires { (grid : Grid) → Ready work.old v t (job_in nvp grid set.now) }
     ensures { (grid : Grid) → MeshedTo work.new v t (job_in nvp grid set.now) result }
 {

@@ -1,8 +1,7 @@
 -- `checks::check::check` meets its contract: what is left to check is the answer as long as nothing has refused, and the first refusal is the answer then. What has
 -- passed keeps the sums, places and products of later checks in range. Assumes nothing.
-use mathlib.Core.Path.{◌≡◌, refl, ◌∙◌}
+use mathlib.Core.Path.{refl, ◌∙◌}
 use Rattle.std.proofs.lemmas.Result.{err_from_is_err_and}
-use Rattle.laws.specs.Checks.{Agreed}
 use Rattle.checks.specs.Answers.{no_grid, job_in}
 use Rattle.checks.proofs.Order.{limit_low, counts_agreed, few, all_left, past, last, stop}
 use Rattle.checks.proofs.InHand.{numbers_fit, high_says, flags_say, many_is, t_below, room_is}

@@ -19,5 +19,5 @@ unfolding sum_all
 returns c =
     let ls = c.args.lengths.now in
     let whole = sum_by_from_yields_List _ _ c.map.result _ c.sum.ensures.ran
-        (YieldsList-from_map _ (λ n. n) (YieldsList-at c.map.ensures.source (YieldsList-from_slice ls cc)) c.map.ensures.closure (λ x r q k. search (rules, tests))) in
+    (YieldsList-from_map _ (λ n. n) (YieldsList-at c.map.ensures.source (YieldsList-from_slice ls cc)) c.map.ensures.closure (λ x r q k. search (rules, tests))) in
     (totalled (λ n. n) (λ n. omega arith) ls c.requires (λ i. (c.type_inv.lengths i).fits) whole)

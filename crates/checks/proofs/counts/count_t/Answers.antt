@@ -2,7 +2,6 @@
 use Rattle.std.proofs.Common.{rules, tests}
 use Rattle.std.proofs.lemmas.Iterator.{YieldsList-from_slice, YieldsList-from_map}
 use Rattle.std.proofs.lemmas.Iterator.Consumers.{YieldsList-at, sum_by_from_yields_List, fits_by_from_yields_list}
-use native.Mathlib.Omega.{arith}
 use Rattle.checks.specs.Sums.{triangles_of, sum_t}
 use Rattle.checks.proofs.Adding.{sum_in_range, totalled, triangles_most}
 use Rattle.checks.proofs.counts.count_t.Goals as goal
@@ -19,5 +18,5 @@ unfolding sum_t
 returns c =
     let ls = c.args.lengths.now in
     let whole = sum_by_from_yields_List _ _ c.map.result _ c.sum.ensures.ran
-        (YieldsList-from_map _ triangles_of (YieldsList-at c.map.ensures.source (YieldsList-from_slice ls cc)) c.map.ensures.closure (λ x r q k. search (rules, tests))) in
+    (YieldsList-from_map _ triangles_of (YieldsList-at c.map.ensures.source (YieldsList-from_slice ls cc)) c.map.ensures.closure (λ x r q k. search (rules, tests))) in
     (totalled triangles_of triangles_most ls c.requires (λ i. (c.type_inv.lengths i).fits) whole).is

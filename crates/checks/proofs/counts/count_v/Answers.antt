@@ -2,7 +2,6 @@
 use Rattle.std.proofs.Common.{rules, tests}
 use Rattle.std.proofs.lemmas.Iterator.{YieldsList-from_slice, YieldsList-from_map}
 use Rattle.std.proofs.lemmas.Iterator.Consumers.{YieldsList-at, sum_by_from_yields_List, fits_by_from_yields_list}
-use native.Mathlib.Omega.{arith}
 use Rattle.checks.specs.Sums.{points_of, sum_v}
 use Rattle.checks.proofs.Adding.{sum_in_range, totalled, points_most}
 use Rattle.checks.proofs.counts.count_v.Goals as goal
@@ -19,5 +18,5 @@ unfolding sum_v
 returns c =
     let ls = c.args.lengths.now in
     let whole = sum_by_from_yields_List _ _ c.map.result _ c.sum.ensures.ran
-        (YieldsList-from_map _ points_of (YieldsList-at c.map.ensures.source (YieldsList-from_slice ls cc)) c.map.ensures.closure (λ x r q k. search (rules, tests))) in
+    (YieldsList-from_map _ points_of (YieldsList-at c.map.ensures.source (YieldsList-from_slice ls cc)) c.map.ensures.closure (λ x r q k. search (rules, tests))) in
     (totalled points_of points_most ls c.requires (λ i. (c.type_inv.lengths i).fits) whole).is

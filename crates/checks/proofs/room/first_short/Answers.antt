@@ -15,4 +15,4 @@ returns c =
     let test : ℕ → Bool = λ k. ltb (get_or c.args.have k 0) (get_or c.args.least k 0) in
     let long : length c.args.least ≡ 7 = search rules in
     rw long (found_first test 7 _ (first_from_Range _ _ _ _ (λ k. test k ≡ true) (λ k. test k ≡ false) c.find.ensures.ran
-        (λ x q k. search (rules, tests)) (λ x q k. search (rules, tests))))
+    (λ x q k. search (rules, tests)) (λ x q k. search (rules, tests))))

@@ -14,4 +14,4 @@ unfolding first_high_in
 returns c =
     let test : ℕ → Bool = λ k. is_high (vertex_at c.args.numbers.now k) in
     found_first test c.args.n _ (first_from_Range _ _ _ _ (λ k. test k ≡ true) (λ k. test k ≡ false) c.find.ensures.ran
-        (λ x q k. search (rules, tests)) (λ x q k. search (rules, tests)))
+    (λ x q k. search (rules, tests)) (λ x q k. search (rules, tests)))
