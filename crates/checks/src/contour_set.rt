@@ -1,5 +1,4 @@
 // The contours of a job, as its steps hand them on.
-ghost use Rattle.checks.specs.Words.{WordsFit};
 
 // For each contour its length, its region and its area code; and four numbers for each vertex: x, y, z and its flag.
 #[derive(Clone, Copy)]
@@ -8,5 +7,4 @@ pub struct ContourSet<'a> {
     pub regions: &'a [u16],
     pub codes: &'a [u8],
     pub numbers: &'a [u16],
-    ghost fits: { WordsFit lengths.now regions.now codes.now numbers.now },
 }

@@ -5,6 +5,7 @@ ghost use Rattle.rules.specs.Exits.{exits};
 ghost use Rattle.rules.specs.Checker.{OwnAccepted};
 ghost use Rattle.checks.specs.Answers.{job_in};
 ghost use Rattle.outputs.specs.Ready.{buffers};
+ghost use Rattle.polymesh.specs.Words.{WordsFit};
 
 use crate::build::build;
 use checks::check::check;
@@ -12,6 +13,11 @@ use checks::contour_set::ContourSet;
 use checks::counts::{count_t, count_v};
 use checks::room::work_words;
 use rules::{Answer, Grid, Header};
+
+// What the lists' types say of their numbers, whatever they are. It does nothing.
+fn words_fit(lengths: &[u32], regions: &[u16], codes: &[u8], numbers: &[u16])
+    ensures { WordsFit lengths.now regions.now codes.now numbers.now }
+{}
 
 // Contours become a polygon mesh, or the first refusal that applies is given. Any numbers may be handed in. A job has the
 // most corners of a polygon, the grid's width, height and border, and for each contour a length, a region and an area code;
@@ -51,6 +57,7 @@ pub fn into_polygon_mesh(
             header,
         };
     }
+    words_fit(set.lengths, set.regions, set.codes, set.numbers);
     let v = count_v(set.lengths);
     let t = count_t(set.lengths);
     let n = work_words(v);

@@ -56,10 +56,10 @@ build-reply-requires c =
         w = omega arith;
         h = omega arith;
         border = omega arith;
-        lengths = c.args.set.now.fits.lengths;
-        regions = c.args.set.now.fits.regions;
-        codes = c.args.set.now.fits.codes;
-        numbers = c.args.set.now.fits.numbers;
+        lengths = c.words_fit.ensures.lengths;
+        regions = c.words_fit.ensures.regions;
+        codes = c.words_fit.ensures.codes;
+        numbers = c.words_fit.ensures.numbers;
       }),
     )
 
