@@ -8,7 +8,9 @@ ghost use Rattle.outputs.specs.Ready.{buffers};
 ghost use Rattle.capi.specs.Numbers.{answer_words};
 
 use crate::header::{header_from, put_answer, put_header};
+use checks::contour_set::ContourSet;
 use polymesh::mesh::into_polygon_mesh;
+use rules::Grid;
 
 // Contours become a polygon mesh, as `into_polygon_mesh` does it. The header's nine numbers come back as they were; `answer` takes the
 // reply's number, its second and its third, and the unit: 0 for millimetres, 1 for inches. The result is the reply's number.
@@ -39,16 +41,18 @@ pub extern "C" fn mittencrest_build_v1(
     ensures words { buffers vertices.new polygons.new neighbours.new polyregions.new polycodes.new flags.new work.new ≡ exits (job_of nvp w h border lengths.now regions.now codes.now numbers.now) (buffers vertices.old polygons.old neighbours.old polyregions.old polycodes.old flags.old work.old) }
 {
     let given = header_from(inches, header);
-    let a = into_polygon_mesh(
-        given,
-        nvp,
-        w,
-        h,
-        border,
+    let grid = Grid { w, h, border };
+    let set = ContourSet {
         lengths,
         regions,
         codes,
         numbers,
+    };
+    let a = into_polygon_mesh(
+        given,
+        nvp,
+        grid,
+        &set,
         vertices,
         polygons,
         neighbours,

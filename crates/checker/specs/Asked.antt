@@ -3,7 +3,7 @@ use Rattle.std.specs.Prelude.{List, [], ℕ, ℤ, pos}
 use Rattle.rules.specs.Handed.{Handed}
 use Rattle.rules.specs.Checker.{Claim}
 use Rattle.checker.specs.declared.mesh.Mesh.{Mesh}
-use Rattle.checker.specs.declared.mesh.Grid.{Grid}
+use Rattle.rules.specs.declared.Grid.{Grid}
 
 -- the mesh of these numbers
 abbrev pub handed_in : ℕ → List ℕ → List ℕ → List ℕ → Handed

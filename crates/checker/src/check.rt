@@ -13,9 +13,9 @@ ghost use Rattle.checker.specs.Steps.{RowsReady};
 use crate::buffers::buffers_hold;
 use crate::corners::first_bad_corners;
 use crate::linked::first_bad_links;
-use crate::mesh::{Grid, Mesh};
+use crate::mesh::Mesh;
 use crate::portals::first_bad_portals;
-use rules::{Fault, Objection, VERTEX_STRIDE};
+use rules::{Fault, Grid, Objection, VERTEX_STRIDE};
 use stored::area::mesh_area;
 
 // 42, of np polygons.

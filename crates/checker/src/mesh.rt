@@ -8,11 +8,3 @@ pub struct Mesh<'a> {
     pub polygons: &'a [u16],
     pub links: &'a [u32],
 }
-
-// The grid that it is said to lie on.
-#[derive(Clone, Copy)]
-pub struct Grid {
-    pub w: u16,
-    pub h: u16,
-    pub border: u16,
-}

@@ -10,11 +10,11 @@ ghost use Rattle.checker.specs.Asked.{handed, unclaimed};
 ghost use Rattle.checker.specs.Steps.{vertices_in, side_bears, SidesReady};
 
 use crate::ends::corners_end;
-use crate::mesh::{Grid, Mesh};
+use crate::mesh::Mesh;
 use links::portals::portal_of;
 use plane::ring::next;
 use records::polygon::NONE;
-use rules::{Point, VERTEX_STRIDE};
+use rules::{Grid, Point, VERTEX_STRIDE};
 
 // The place of vertex c.
 fn place_at(vertices: &[u16], c: u16) -> Point

@@ -1,4 +1,4 @@
--- the loop of the sums
+-- the sums over the lengths
 pub mod Adding
 -- the loop of a search for the first place
 pub mod Seeking

@@ -1,7 +1,7 @@
 -- One check after the other: the first refusal is the answer, and as long as none refuses, the answer is that of the checks that are left. And what is known
 -- once a check has passed. Assumes nothing.
 use Rattle.std.specs.Prelude.{Result, Ok, Err, ⊤}
-use mathlib.Core.Path.{◌≡◌, refl, sym, ap, ◌∙◌}
+use mathlib.Core.Path.{◌≡◌, refl, sym, ◌∙◌}
 use mathlib.Core.Bool.{Bool, false, not, ◌||◌}
 use mathlib.Core.List.{List}
 use Prim.Native.Nat.{ℕ, ◌≤◌}
@@ -9,7 +9,7 @@ use lib.Dec.{ltb}
 use borrow.Author.Tests.{ltb-false, not-false}
 use Rattle.ints.specs.Bools.{or_right}
 use Rattle.rules.specs.Job.{Job}
-use Rattle.rules.specs.Checks.{Checked, passed, refusal, refuse_if, refuse_at, or_next, check_nvp, counts_agree, check_counts, first_high, first_bad_flag, check_v, least_lengths, first_short, check}
+use Rattle.rules.specs.Checks.{Checked, refusal, refuse_if, refuse_at, or_next, check_nvp, counts_agree, check_counts, first_high, first_bad_flag, check_v, least_lengths, first_short, check}
 use Rattle.rules.specs.declared.Refusal.{Refusal}
 use Rattle.rules.specs.declared.Refusal.TheVariants.{BadCornerLimit, CountsDisagree, HighCoordinate, BadFlag, TooManyVertices, ShortBuffer}
 use Rattle.laws.specs.Checks.{Agreed}

@@ -1,9 +1,11 @@
--- The loop of a search for the first place where a test holds: as long as it fails, the answer of the whole is the answer of the places that are left.
--- Assumes nothing.
+-- A search for the first place where a test holds: as long as it fails, the answer of the whole is the answer of the places that are left. So what `find` gives
+-- over a range is the rules' search. Assumes nothing.
 use Rattle.std.specs.Prelude.{Option, Some, None}
+use Rattle.std.specs.Option.{MatchOption}
 use mathlib.Core.Path.{◌≡◌, refl, sym, ◌∙◌}
 use mathlib.Core.Bool.{Bool, true, false}
-use Prim.Native.Nat.{ℕ, ◌+◌, ◌≤◌, ◌<◌}
+use Prim.Native.Nat.{ℕ, zero, suc, ◌+◌, ◌≤◌, ◌<◌}
+use native.Mathlib.Omega.{arith}
 use Rattle.mem.specs.Loops.{over, Left, turn, next, end}
 use Rattle.rules.specs.Lists.{when, or_else}
 
@@ -11,21 +13,20 @@ use Rattle.rules.specs.Lists.{when, or_else}
 abbrev pub first : (ℕ → Bool) → ℕ → Option ℕ
 first test n = over None or_else (λ k. when (test k) k) 0 n
 
-pub record Seeking (test : ℕ → Bool) (n k : ℕ) (found : Option ℕ) : Type 0 where
-  pub left : Left None or_else (λ i. when (test i) i) (λ r. r) (first test n) n k
-  pub nothing : found ≡ None
+-- the places from k on are left to be searched
+abbrev Seeking : (ℕ → Bool) → ℕ → ℕ → Type 0
+Seeking test n k = Left None or_else (λ i. when (test i) i) (λ r. r) (first test n) n k
 
-pub seek_begin : (test : ℕ → Bool) (n : ℕ) → Seeking test n 0 None
-seek_begin test n = record { left = record { same = refl }; nothing = refl }
-
-module _ {test : ℕ → Bool} {n k : ℕ} {found : Option ℕ} (s : Seeking test n k found) where
-  pub seek_next : k < n → test k ≡ false → Seeking test n (k + 1) found
+module _ (test : ℕ → Bool) (n : ℕ) where
+  seek : (k : ℕ) → k ≤ n → ((i : ℕ) → i < k → test i ≡ false) → Seeking test n k
   unfolding when or_else
-  seek_next h e = record { left = next s.left h (λ r. rw e); nothing = s.nothing }
+  seek zero h fails = record { same = refl }
+  seek (suc k) h fails =
+      let one : suc k ≡ k + 1 = omega arith in
+      rw one (next (seek k (omega arith) (λ i l. fails i (omega arith))) (omega arith) (λ r. rw (fails k (omega arith))))
 
-  pub seek_hit : k < n → test k ≡ true → Some k ≡ first test n
+  pub found_first : (r : Option ℕ) → MatchOption r ((k : ℕ) → 0 ≤ k → k < n → test k ≡ false)
+      (λ i. (0 ≤ i) × (i < n) × (test i ≡ true) × ((k : ℕ) → 0 ≤ k → k < i → test k ≡ false)) → r ≡ first test n
   unfolding when or_else
-  seek_hit h e = sym (turn s.left h ∙ rw e)
-
-  pub seek_end : n ≤ k → found ≡ first test n
-  seek_end h = s.nothing ∙ sym (end s.left h)
+  found_first None none = sym (end (seek n (omega arith) (λ k h. none k (omega arith) h)) (omega arith))
+  found_first (Some i) hit = sym (turn (seek i (omega arith) (λ k h. hit.3 k (omega arith) h)) hit.1 ∙ rw hit.2 refl)

@@ -1,16 +1,25 @@
 -- A job of the numbers that are handed in, the verdict, and the searches and the least lengths over those numbers. Assumes nothing.
 -- Key: `is_passed`, `is_refusal`: what a verdict says of the rules' check; `high_is`, `flag_is`, `least_is`: searches and lengths are the rules'.
 use Rattle.std.specs.Prelude.{◌≡◌, refl, List, [], ◌∷◌, ℕ, ◌+◌, ◌*◌, ◌≤◌, ltb, Option, None, Result, Ok, Err, ⊤}
-use Rattle.std.proofs.Common.{arith}
 use Rattle.mem.specs.Loops.{over}
 use Rattle.rules.specs.Lists.{when, or_else}
 use Rattle.rules.specs.Job.{Job, vertex_at, flag_at, count_all, count_v, count_t}
 use Rattle.rules.specs.Checks.{Checked, passed, refusal, vertex_stride, work_words, least_lengths, is_high, first_high, first_bad_flag}
 use Rattle.rules.specs.declared.Refusal.{Refusal}
+use Rattle.rules.specs.declared.Grid.{Grid}
+use Rattle.checks.specs.declared.contour_set.ContourSet.{ContourSet}
 
 -- the job of these numbers and lists
 abbrev pub job_of : ℕ → ℕ → ℕ → ℕ → List ℕ → List ℕ → List ℕ → List ℕ → Job
 job_of nvp w h border ls rs cs ns = record { nvp = nvp; w = w; h = h; border = border; lengths = ls; regions = rs; codes = cs; numbers = ns }
+
+-- the job of these contours on this grid
+abbrev pub job_in : ℕ → Grid → ContourSet → Job
+job_in nvp g s = job_of nvp g.w g.h g.border s.lengths.now s.regions.now s.codes.now s.numbers.now
+
+-- no grid and no border, for what doesn't depend on them
+abbrev pub no_grid : Grid
+no_grid = record { w = 0; h = 0; border = 0 }
 
 -- the answer of the code, case by case: it may be built, or the refusal, whose number and second number are the rules' `refusal_number` and `refusal_second`
 unfoldable pub verdict_of : Checked → Result ⊤ Refusal

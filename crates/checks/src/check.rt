@@ -2,9 +2,11 @@
 ghost use Rattle.std.specs.Prelude.{◌≡◌, ℕ, ◌*◌, ◌≤◌, ltb, length};
 ghost use Rattle.rules.specs.Job.{Job, job_stride};
 ghost use Rattle.rules.specs.Checks.{refuse_if, refuse_at, check_nvp, check_counts, first_short, check};
+ghost use Rattle.rules.specs.declared.Grid.{Grid};
 ghost use Rattle.rules.specs.declared.Refusal.TheVariants.{HighCoordinate, BadFlag, TooManyVertices, ShortBuffer};
-ghost use Rattle.checks.specs.Answers.{job_of, verdict_of, first_high_in, first_bad_flag_in, Sized, least_of};
+ghost use Rattle.checks.specs.Answers.{job_in, verdict_of, first_high_in, first_bad_flag_in, Sized, least_of};
 
+use crate::contour_set::ContourSet;
 use crate::counts::{count_all, count_t, count_v, counts_agree};
 use crate::room::{BUFFERS, first_short, least_lengths};
 use crate::vertices::{first_bad_flag, first_high};
@@ -21,15 +23,10 @@ fn check_nvp(nvp: u32) -> Result<(), Refusal>
 }
 
 // 2: the lists don't agree in count, or there are over 65,535 contours.
-fn check_counts(
-    lengths: &[u32],
-    regions: &[u16],
-    codes: &[u8],
-    numbers: &[u16],
-) -> Result<(), Refusal>
-    ensures { (nvp w h border : ℕ) → result ≡ verdict_of (check_counts (job_of nvp w h border lengths.now regions.now codes.now numbers.now)) }
+fn check_counts(set: &ContourSet<'_>) -> Result<(), Refusal>
+    ensures { (nvp : ℕ) (grid : Grid) → result ≡ verdict_of (check_counts (job_in nvp grid set.now)) }
 {
-    if counts_agree(lengths, regions, codes, numbers) {
+    if counts_agree(set) {
         return Ok(());
     }
     Err(Refusal::CountsDisagree)
@@ -78,24 +75,17 @@ fn check_room(nvp: u32, v: usize, t: usize, have: [usize; BUFFERS]) -> Result<()
     Ok(())
 }
 
-// Replies 1 to 6 for a job with these numbers, whatever its grid and its border are; `have` are the lengths of the lent
+// Replies 1 to 6 for a job of these contours, whatever its grid and its border are; `have` are the lengths of the lent
 // buffers, in their order.
-pub fn check(
-    nvp: u32,
-    lengths: &[u32],
-    regions: &[u16],
-    codes: &[u8],
-    numbers: &[u16],
-    have: [usize; BUFFERS],
-) -> Result<(), Refusal>
-    ensures { (w h border : ℕ) → result ≡ verdict_of (check (job_of nvp w h border lengths.now regions.now codes.now numbers.now) have) }
+pub fn check(nvp: u32, set: &ContourSet<'_>, have: [usize; BUFFERS]) -> Result<(), Refusal>
+    ensures { (grid : Grid) → result ≡ verdict_of (check (job_in nvp grid set.now) have) }
 {
     check_nvp(nvp)?;
-    check_counts(lengths, regions, codes, numbers)?;
-    let n = count_all(lengths);
-    check_high(numbers, n)?;
-    check_flags(numbers, n)?;
-    let v = count_v(lengths);
+    check_counts(set)?;
+    let n = count_all(set.lengths);
+    check_high(set.numbers, n)?;
+    check_flags(set.numbers, n)?;
+    let v = count_v(set.lengths);
     check_v(v)?;
-    check_room(nvp, v, count_t(lengths), have)
+    check_room(nvp, v, count_t(set.lengths), have)
 }

@@ -29,12 +29,5 @@ pub fn least_lengths(nvp: u32, v: usize, t: usize) -> [usize; BUFFERS]
 pub fn first_short(have: [usize; BUFFERS], least: [usize; BUFFERS]) -> Option<usize>
     ensures { result ≡ first_short have least }
 {
-    let mut found = None;
-    for k in 0..BUFFERS {
-        if have[k] < least[k] {
-            found = Some(k);
-            break;
-        }
-    }
-    found
+    (0..BUFFERS).find(|k| have[*k] < least[*k])
 }

@@ -28,14 +28,7 @@ pub fn first_high(numbers: &[u16], n: usize) -> Option<usize>
     requires { n * job_stride ≤ length numbers.now }
     ensures { result ≡ first_high_in numbers.now n }
 {
-    let mut found = None;
-    for k in 0..n {
-        if is_high(numbers, k) {
-            found = Some(k);
-            break;
-        }
-    }
-    found
+    (0..n).find(|k| is_high(numbers, *k))
 }
 
 // The first of the n vertices whose flag is neither 0 nor 1.
@@ -43,12 +36,5 @@ pub fn first_bad_flag(numbers: &[u16], n: usize) -> Option<usize>
     requires { n * job_stride ≤ length numbers.now }
     ensures { result ≡ first_bad_flag_in numbers.now n }
 {
-    let mut found = None;
-    for k in 0..n {
-        if is_bad_flag(numbers, k) {
-            found = Some(k);
-            break;
-        }
-    }
-    found
+    (0..n).find(|k| is_bad_flag(numbers, *k))
 }

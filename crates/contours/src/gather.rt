@@ -2,12 +2,13 @@
 ghost use Rattle.std.specs.Prelude.{◌≡◌, ◌<◌, length};
 ghost use Rattle.rules.specs.Build.{add_all};
 ghost use Rattle.rules.specs.declared.Refusal.TheVariants.{NoEarInContour};
-ghost use Rattle.checks.specs.Answers.{job_of};
+ghost use Rattle.checks.specs.Answers.{no_grid, job_in};
 ghost use Rattle.contours.specs.Ground.{ground_in, mesh_at};
 ghost use Rattle.contours.specs.Gathering.{contour_in, NextReady, next_mesh, next_answer, GatherReady, gathered_of, mesh_of};
 
 use crate::add::add_contour;
 use crate::ground::{Contour, Ground};
+use checks::contour_set::ContourSet;
 use ears::cut::NoEar;
 use records::counts::Counts;
 use rules::Refusal;
@@ -33,15 +34,15 @@ impl From<NoEarIn> for Refusal {
 }
 
 // Contour c of a job, which begins at the vertex `first`.
-fn contour_at(lengths: &[u32], regions: &[u16], codes: &[u8], c: usize, first: usize) -> Contour
-    requires { (c < length lengths.now) × (c < length regions.now) × (c < length codes.now) }
-    ensures { result ≡ contour_in lengths.now regions.now codes.now c first }
+fn contour_at(set: &ContourSet<'_>, c: usize, first: usize) -> Contour
+    requires { (c < length set.now.lengths.now) × (c < length set.now.regions.now) × (c < length set.now.codes.now) }
+    ensures { result ≡ contour_in set.now.lengths.now set.now.regions.now set.now.codes.now c first }
 {
     Contour {
         first,
-        n: lengths[c] as usize,
-        region: regions[c],
-        code: codes[c],
+        n: set.lengths[c] as usize,
+        region: set.regions[c],
+        code: set.codes[c],
     }
 }
 
@@ -74,23 +75,20 @@ pub fn add_contours(
     work: &mut [u32],
     g: Ground,
     nvp: usize,
-    lengths: &[u32],
-    regions: &[u16],
-    codes: &[u8],
-    numbers: &[u16],
+    set: &ContourSet<'_>,
 ) -> Result<Counts, NoEarIn>
-    requires { GatherReady work.old g (job_of nvp 0 0 0 lengths.now regions.now codes.now numbers.now) }
-    ensures answer { result ≡ gathered_of (add_all (job_of nvp 0 0 0 lengths.now regions.now codes.now numbers.now)) }
-    ensures words { work.new ≡ ground_in (length work.old) g (mesh_of (add_all (job_of nvp 0 0 0 lengths.now regions.now codes.now numbers.now))) }
+    requires { GatherReady work.old g (job_in nvp no_grid set.now) }
+    ensures answer { result ≡ gathered_of (add_all (job_in nvp no_grid set.now)) }
+    ensures words { work.new ≡ ground_in (length work.old) g (mesh_of (add_all (job_in nvp no_grid set.now))) }
 {
     let mut n = Counts {
         vertices: 0,
         polygons: 0,
     };
     let mut first = 0;
-    for c in 0..lengths.len() {
-        let k = contour_at(lengths, regions, codes, c, first);
-        match add_next(work, g, n.vertices, n.polygons, nvp, numbers, k) {
+    for c in 0..set.lengths.len() {
+        let k = contour_at(set, c, first);
+        match add_next(work, g, n.vertices, n.polygons, nvp, set.numbers, k) {
             Ok(now) => {
                 n = now;
             }

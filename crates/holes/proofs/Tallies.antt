@@ -1,31 +1,11 @@
 -- How often a word stands in a list, and how many words stand there once, as counts of the words that pass a test. Assumes nothing.
-use Rattle.std.specs.Prelude.{◌≡◌, List, [], ◌∷◌, ℕ, zero, suc, ◌+◌, ◌-◌, eqb, cond, length, get_or, count_by, sum_by}
+use Rattle.std.specs.Prelude.{◌≡◌, List, ℕ, eqb, cond, count_by}
 use Rattle.std.proofs.Math.Path.{refl}
-use Rattle.std.proofs.Common.{sym, ap, arith}
+use Rattle.std.proofs.Common.{sym}
 use Rattle.std.proofs.lemmas.List.Recursion.{is_sum_by}
-use Rattle.mem.specs.Loops.{over, run}
+use Rattle.mem.specs.Sums.{over_sum}
 use Rattle.rules.specs.Lists.{count}
 use Rattle.rules.specs.Removal.{met_once}
-
--- a sum by places is the sum of the list
-run_shift : (g : ℕ → ℕ) (i m : ℕ) → run 0 ◌+◌ g (suc i) m ≡ run 0 ◌+◌ (λ k. g (suc k)) i m
-unfolding run
-run_shift g i zero = refl
-run_shift g i (suc m) = ap (λ (n : ℕ). g (suc i) + n) (run_shift g (suc i) m)
-
-run_step : (f : ℕ → ℕ) (x : ℕ) (xs : List ℕ) → run 0 ◌+◌ (λ k. f (get_or (x ∷ xs) k 0)) 0 (length (x ∷ xs)) ≡ f x + run 0 ◌+◌ (λ k. f (get_or xs k 0)) 0 (length xs)
-unfolding run
-run_step f x xs = ap (λ (n : ℕ). f x + n) (run_shift (λ k. f (get_or (x ∷ xs) k 0)) 0 (length xs))
-
-run_none : (f : ℕ → ℕ) → run 0 ◌+◌ (λ k. f (get_or [] k 0)) 0 0 ≡ 0
-unfolding run
-run_none f = refl
-
-over_sum : (f : ℕ → ℕ) (xs : List ℕ) → over 0 ◌+◌ (λ k. f (get_or xs k 0)) 0 (length xs) ≡ sum_by f xs
-unfolding over
-over_sum f xs =
-    let e : length xs - 0 ≡ length xs = omega arith in
-    rw e (is_sum_by (λ (l : List ℕ). run 0 ◌+◌ (λ k. f (get_or l k 0)) 0 (length l)) f (run_none f) (run_step f) xs)
 
 pub count_is : (v : ℕ) (s : List ℕ) → count_by (λ (x : ℕ). eqb x v) s ≡ count v s
 unfolding count

@@ -11,15 +11,14 @@ ghost use Rattle.links.specs.Ready.{link_records, LinksInHand, PortalReady, port
 
 use plane::ring::next;
 use records::polygon::{LINK_SIZE, NONE, Poly, corner, load_at, place_of};
-use rules::Point;
+use rules::{Grid, Point};
 
-// The grid, from 0 to w and from 0 to h, and the nv vertices on it, which stand at vo.
+// The nv vertices, which stand at vo, and the grid that they lie on.
 #[derive(Clone, Copy)]
-struct Grid {
+struct Plan {
     vo: usize,
     nv: usize,
-    w: u16,
-    h: u16,
+    grid: Grid,
 }
 
 // The link of an open side from a to b: with both ends on x=0, z=h, x=w or z=0, tried so, it is 65,536 plus 0, 1, 2 or 3;
@@ -43,19 +42,19 @@ pub fn portal_of(w: u16, h: u16, a: Point, b: Point) -> u32
 }
 
 // The link of side j of p if it is open.
-fn side_portal(work: &[u32], g: Grid, p: Poly, j: usize) -> u32
+fn side_portal(work: &[u32], g: Plan, p: Poly, j: usize) -> u32
     requires { Placed work.now g.vo g.nv × All (Below g.nv) (corners_of p) × On p j }
-    ensures { result ≡ portal_of g.w g.h (place_of (vertices_at work.now g.vo g.nv) (side_start (corners_of p) j)) (place_of (vertices_at work.now g.vo g.nv) (side_end (corners_of p) j)) }
+    ensures { result ≡ portal_of g.grid.w g.grid.h (place_of (vertices_at work.now g.vo g.nv) (side_start (corners_of p) j)) (place_of (vertices_at work.now g.vo g.nv) (side_end (corners_of p) j)) }
 {
     let a = place_of(work, g.vo, g.nv, p, j);
     let b = place_of(work, g.vo, g.nv, p, next(j, p.n));
-    portal_of(g.w, g.h, a, b)
+    portal_of(g.grid.w, g.grid.h, a, b)
 }
 
 // The link of side j of p, whose links stand at `at`: a portal if it is open and on the grid's edge, else what it was.
-fn portal_at(work: &[u32], g: Grid, p: Poly, at: usize, j: usize) -> u32
+fn portal_at(work: &[u32], g: Plan, p: Poly, at: usize, j: usize) -> u32
     requires { LinksInHand work.now g.vo g.nv p at × On p j }
-    ensures { result ≡ portal_at (vertices_at work.now g.vo g.nv) g.w g.h (corners_of p) (view work.now at p.n) j }
+    ensures { result ≡ portal_at (vertices_at work.now g.vo g.nv) g.grid.w g.grid.h (corners_of p) (view work.now at p.n) j }
 {
     let link = work[at + j];
     if link == NONE {
@@ -65,9 +64,9 @@ fn portal_at(work: &[u32], g: Grid, p: Poly, at: usize, j: usize) -> u32
 }
 
 // The same for each side of p.
-fn mark_polygon(work: &mut [u32], g: Grid, p: Poly, at: usize)
+fn mark_polygon(work: &mut [u32], g: Plan, p: Poly, at: usize)
     requires { LinksInHand work.old g.vo g.nv p at }
-    ensures { work.new ≡ splice work.old at (portals_in (vertices_at work.old g.vo g.nv) g.w g.h (corners_of p) (view work.old at p.n)) }
+    ensures { work.new ≡ splice work.old at (portals_in (vertices_at work.old g.vo g.nv) g.grid.w g.grid.h (corners_of p) (view work.old at p.n)) }
 {
     for j in 0..p.n {
         work[at + j] = portal_at(work, g, p, at, j);
@@ -82,17 +81,15 @@ pub fn mark_portals(
     o: usize,
     np: usize,
     lo: usize,
-    w: u16,
-    h: u16,
-    border: u16,
+    grid: Grid,
 )
     requires { PortalReady work.old vo nv o np lo }
-    ensures { work.new ≡ splice work.old lo (link_records (portals_at work.old vo nv o np lo w h border)) }
+    ensures { work.new ≡ splice work.old lo (link_records (portals_at work.old vo nv o np lo grid.w grid.h grid.border)) }
 {
-    if border == 0 {
+    if grid.border == 0 {
         return;
     }
-    let g = Grid { vo, nv, w, h };
+    let g = Plan { vo, nv, grid };
     for i in 0..np {
         let p = load_at(work, o, np, i);
         mark_polygon(work, g, p, lo + i * LINK_SIZE);

@@ -1,3 +1,5 @@
+-- the numbers of lent lists fit their words
+pub mod Words
 -- where everything stands in the work buffer: definitions that contracts cite
 pub mod Layout
 -- what the contours and the removals leave

@@ -1,6 +1,7 @@
 // A job that has passed the checks is built.
 ghost use Rattle.std.specs.Prelude.{◌≡◌, ℕ, length, replicate};
-ghost use Rattle.checks.specs.Answers.{job_of};
+ghost use Rattle.rules.specs.declared.Grid.{Grid};
+ghost use Rattle.checks.specs.Answers.{job_in};
 ghost use Rattle.outputs.specs.Ready.{buffers};
 ghost use Rattle.polymesh.specs.Layout.{words_of, used_of};
 ghost use Rattle.polymesh.specs.Gather.{Admitted, Ready, MeshedTo};
@@ -8,11 +9,12 @@ ghost use Rattle.polymesh.specs.Build.{BuildReady, MadeTo, BuiltTo};
 
 use crate::layout::{ground, places, site, used_words};
 use crate::link::link_mesh;
+use checks::contour_set::ContourSet;
 use contours::gather::add_contours;
 use outputs::store::store_mesh;
 use records::counts::Counts;
 use removals::all::remove_all;
-use rules::{Built, Reply};
+use rules::{Built, Grid, Reply};
 use words::fill::fill;
 
 // Zeros in the whole work buffer.
@@ -25,21 +27,12 @@ fn wipe(work: &mut [u32])
 
 // A job with these numbers has passed the checks, and the work buffer has as many words as it uses: the contours become a
 // mesh there, and the marked vertices are tried. The result is the build's reply, and with a mesh it stands there.
-fn gather_mesh(
-    work: &mut [u32],
-    v: usize,
-    t: usize,
-    nvp: usize,
-    lengths: &[u32],
-    regions: &[u16],
-    codes: &[u8],
-    numbers: &[u16],
-) -> Reply
-    requires { (w h border : ℕ) → Ready work.old v t (job_of nvp w h border lengths.now regions.now codes.now numbers.now) }
-    ensures { (w h border : ℕ) → MeshedTo work.new v t (job_of nvp w h border lengths.now regions.now codes.now numbers.now) result }
+fn gather_mesh(work: &mut [u32], v: usize, t: usize, nvp: usize, set: &ContourSet<'_>) -> Reply
+    requires { (grid : Grid) → Ready work.old v t (job_in nvp grid set.now) }
+    ensures { (grid : Grid) → MeshedTo work.new v t (job_in nvp grid set.now) result }
 {
     wipe(work);
-    let n = add_contours(work, ground(v, t), nvp, lengths, regions, codes, numbers)?;
+    let n = add_contours(work, ground(v, t), nvp, set)?;
     let left = remove_all(work, site(v, t), n, nvp)?;
     Ok(Built {
         polygons: left.polygons as u64,
@@ -53,13 +46,8 @@ fn make_mesh(
     v: usize,
     t: usize,
     nvp: usize,
-    w: u16,
-    h: u16,
-    border: u16,
-    lengths: &[u32],
-    regions: &[u16],
-    codes: &[u8],
-    numbers: &[u16],
+    grid: Grid,
+    set: &ContourSet<'_>,
     vertices: &mut [u16],
     polygons: &mut [u16],
     neighbours: &mut [u32],
@@ -68,16 +56,16 @@ fn make_mesh(
     flags: &mut [u16],
     work: &mut [u32],
 ) -> Reply
-    requires { ((x y z : ℕ) → Admitted v t (job_of nvp x y z lengths.now regions.now codes.now numbers.now)) × BuildReady (used_of v t) v t (job_of nvp w h border lengths.now regions.now codes.now numbers.now) (buffers vertices.old polygons.old neighbours.old polyregions.old polycodes.old flags.old work.old) }
-    ensures { MadeTo (job_of nvp w h border lengths.now regions.now codes.now numbers.now) (buffers vertices.old polygons.old neighbours.old polyregions.old polycodes.old flags.old work.old) (buffers vertices.new polygons.new neighbours.new polyregions.new polycodes.new flags.new work.new) result }
+    requires { ((any : Grid) → Admitted v t (job_in nvp any set.now)) × BuildReady (used_of v t) v t (job_in nvp grid set.now) (buffers vertices.old polygons.old neighbours.old polyregions.old polycodes.old flags.old work.old) }
+    ensures { MadeTo (job_in nvp grid set.now) (buffers vertices.old polygons.old neighbours.old polyregions.old polycodes.old flags.old work.old) (buffers vertices.new polygons.new neighbours.new polyregions.new polycodes.new flags.new work.new) result }
 {
-    let built = gather_mesh(work, v, t, nvp, lengths, regions, codes, numbers)?;
+    let built = gather_mesh(work, v, t, nvp, set)?;
     let n = Counts {
         vertices: built.vertices as usize,
         polygons: built.polygons as usize,
     };
     let at = places(v, t, n);
-    link_mesh(work, v, t, n, w, h, border);
+    link_mesh(work, v, t, n, grid);
     store_mesh(
         work,
         at,
@@ -97,13 +85,8 @@ pub fn build(
     v: usize,
     t: usize,
     nvp: usize,
-    w: u16,
-    h: u16,
-    border: u16,
-    lengths: &[u32],
-    regions: &[u16],
-    codes: &[u8],
-    numbers: &[u16],
+    grid: Grid,
+    set: &ContourSet<'_>,
     vertices: &mut [u16],
     polygons: &mut [u16],
     neighbours: &mut [u32],
@@ -112,21 +95,16 @@ pub fn build(
     flags: &mut [u16],
     work: &mut [u32],
 ) -> Reply
-    requires { ((x y z : ℕ) → Admitted v t (job_of nvp x y z lengths.now regions.now codes.now numbers.now)) × BuildReady (words_of v) v t (job_of nvp w h border lengths.now regions.now codes.now numbers.now) (buffers vertices.old polygons.old neighbours.old polyregions.old polycodes.old flags.old work.old) }
-    ensures { BuiltTo (job_of nvp w h border lengths.now regions.now codes.now numbers.now) (buffers vertices.old polygons.old neighbours.old polyregions.old polycodes.old flags.old work.old) (buffers vertices.new polygons.new neighbours.new polyregions.new polycodes.new flags.new work.new) result }
+    requires { ((any : Grid) → Admitted v t (job_in nvp any set.now)) × BuildReady (words_of v) v t (job_in nvp grid set.now) (buffers vertices.old polygons.old neighbours.old polyregions.old polycodes.old flags.old work.old) }
+    ensures { BuiltTo (job_in nvp grid set.now) (buffers vertices.old polygons.old neighbours.old polyregions.old polycodes.old flags.old work.old) (buffers vertices.new polygons.new neighbours.new polyregions.new polycodes.new flags.new work.new) result }
 {
     let n = used_words(v, t);
     let reply = make_mesh(
         v,
         t,
         nvp,
-        w,
-        h,
-        border,
-        lengths,
-        regions,
-        codes,
-        numbers,
+        grid,
+        set,
         vertices,
         polygons,
         neighbours,

@@ -3,14 +3,21 @@ ghost use Rattle.std.specs.Prelude.{◌≡◌};
 ghost use Rattle.rules.specs.Build as Rules;
 ghost use Rattle.rules.specs.Exits.{exits};
 ghost use Rattle.rules.specs.Checker.{OwnAccepted};
-ghost use Rattle.checks.specs.Answers.{job_of};
+ghost use Rattle.checks.specs.Answers.{job_in};
 ghost use Rattle.outputs.specs.Ready.{buffers};
+ghost use Rattle.polymesh.specs.Words.{WordsFit};
 
 use crate::build::build;
 use checks::check::check;
+use checks::contour_set::ContourSet;
 use checks::counts::{count_t, count_v};
 use checks::room::work_words;
-use rules::{Answer, Header};
+use rules::{Answer, Grid, Header};
+
+// What the lists' types say of their numbers, whatever they are. It does nothing.
+fn words_fit(lengths: &[u32], regions: &[u16], codes: &[u8], numbers: &[u16])
+    ensures { WordsFit lengths.now regions.now codes.now numbers.now }
+{}
 
 // Contours become a polygon mesh, or the first refusal that applies is given. Any numbers may be handed in. A job has the
 // most corners of a polygon, the grid's width, height and border, and for each contour a length, a region and an area code;
@@ -18,13 +25,8 @@ use rules::{Answer, Header};
 pub fn into_polygon_mesh(
     header: Header,
     nvp: u32,
-    w: u16,
-    h: u16,
-    border: u16,
-    lengths: &[u32],
-    regions: &[u16],
-    codes: &[u8],
-    numbers: &[u16],
+    grid: Grid,
+    set: &ContourSet<'_>,
     vertices: &mut [u16],
     polygons: &mut [u16],
     neighbours: &mut [u32],
@@ -33,9 +35,9 @@ pub fn into_polygon_mesh(
     flags: &mut [u16],
     work: &mut [u32],
 ) -> Answer
-    ensures answer { result ≡ Rules.answer header (job_of nvp w h border lengths.now regions.now codes.now numbers.now) (buffers vertices.old polygons.old neighbours.old polyregions.old polycodes.old flags.old work.old) }
-    ensures words { buffers vertices.new polygons.new neighbours.new polyregions.new polycodes.new flags.new work.new ≡ exits (job_of nvp w h border lengths.now regions.now codes.now numbers.now) (buffers vertices.old polygons.old neighbours.old polyregions.old polycodes.old flags.old work.old) }
-    ensures accepted { OwnAccepted (job_of nvp w h border lengths.now regions.now codes.now numbers.now)
+    ensures answer { result ≡ Rules.answer header (job_in nvp grid set.now) (buffers vertices.old polygons.old neighbours.old polyregions.old polycodes.old flags.old work.old) }
+    ensures words { buffers vertices.new polygons.new neighbours.new polyregions.new polycodes.new flags.new work.new ≡ exits (job_in nvp grid set.now) (buffers vertices.old polygons.old neighbours.old polyregions.old polycodes.old flags.old work.old) }
+    ensures accepted { OwnAccepted (job_in nvp grid set.now)
         result.reply
         (buffers vertices.new polygons.new neighbours.new polyregions.new polycodes.new flags.new
         work.new) }
@@ -49,26 +51,22 @@ pub fn into_polygon_mesh(
         flags.len(),
         work.len(),
     ];
-    if let Err(refusal) = check(nvp, lengths, regions, codes, numbers, have) {
+    if let Err(refusal) = check(nvp, set, have) {
         return Answer {
             reply: Err(refusal),
             header,
         };
     }
-    let v = count_v(lengths);
-    let t = count_t(lengths);
+    words_fit(set.lengths, set.regions, set.codes, set.numbers);
+    let v = count_v(set.lengths);
+    let t = count_t(set.lengths);
     let n = work_words(v);
     let reply = build(
         v,
         t,
         nvp as usize,
-        w,
-        h,
-        border,
-        lengths,
-        regions,
-        codes,
-        numbers,
+        grid,
+        set,
         vertices,
         polygons,
         neighbours,

@@ -20,6 +20,14 @@ pub struct Vertex {
     pub z: u16,
 }
 
+// The grid that a job or a mesh lies on, from 0 to w and from 0 to h, and its border.
+#[derive(Clone, Copy)]
+pub struct Grid {
+    pub w: u16,
+    pub h: u16,
+    pub border: u16,
+}
+
 // How many numbers a stored vertex has: x, y and z. (`vertex_stride` of the rules' `Checks`)
 pub const VERTEX_STRIDE: usize = 3;
 

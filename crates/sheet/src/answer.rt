@@ -8,9 +8,10 @@ use crate::header::header_of;
 use crate::heading::Heading;
 use crate::mesh::put_mesh;
 use crate::rows::{put_refused, put_top};
+use checks::contour_set::ContourSet;
 use polymesh::mesh::into_polygon_mesh;
 use polymesh::replies::{refusal_number, refusal_second};
-use rules::Reply;
+use rules::{Grid, Reply};
 
 // The text for a reply of the build; with reply 0 the mesh stands in the buffers.
 fn put_reply(
@@ -66,17 +67,23 @@ pub fn answer_job(
     let mut polycodes = [0u8; 96];
     let mut flags = [0u16; 96];
     let mut work = [0u32; 16384];
-    let header = header_of(x.inches, x.size, x.height);
-    let answer = into_polygon_mesh(
-        header,
-        x.nvp,
-        x.w,
-        x.h,
-        x.border,
+    let grid = Grid {
+        w: x.w,
+        h: x.h,
+        border: x.border,
+    };
+    let set = ContourSet {
         lengths,
         regions,
         codes,
         numbers,
+    };
+    let header = header_of(x.inches, x.size, x.height);
+    let answer = into_polygon_mesh(
+        header,
+        x.nvp,
+        grid,
+        &set,
         &mut vertices,
         &mut polygons,
         &mut neighbours,

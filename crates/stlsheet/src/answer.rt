@@ -5,9 +5,10 @@ ghost use Rattle.sheet.specs.Room.{out_most};
 ghost use Rattle.stlsheet.specs.Carving.{ReplyReady, reply_file, CarveJobReady, job_file};
 
 use crate::file::put_carved;
+use checks::contour_set::ContourSet;
 use polymesh::mesh::into_polygon_mesh;
 use polymesh::replies::{refusal_number, refusal_second};
-use rules::Reply;
+use rules::{Grid, Reply};
 use sheet::header::header_of;
 use sheet::heading::Heading;
 use sheet::rows::put_refused;
@@ -60,17 +61,23 @@ pub fn carve_job(
     let mut polycodes = [0u8; 96];
     let mut flags = [0u16; 96];
     let mut work = [0u32; 16384];
-    let header = header_of(x.inches, x.size, x.height);
-    let answer = into_polygon_mesh(
-        header,
-        x.nvp,
-        x.w,
-        x.h,
-        x.border,
+    let grid = Grid {
+        w: x.w,
+        h: x.h,
+        border: x.border,
+    };
+    let set = ContourSet {
         lengths,
         regions,
         codes,
         numbers,
+    };
+    let header = header_of(x.inches, x.size, x.height);
+    let answer = into_polygon_mesh(
+        header,
+        x.nvp,
+        grid,
+        &set,
         &mut vertices,
         &mut polygons,
         &mut neighbours,

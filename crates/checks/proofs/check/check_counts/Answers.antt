@@ -6,8 +6,8 @@ use Rattle.checks.proofs.check.check_counts.Goals as goal
 
 pub returns-then-counts_agree : goal.returns-then-counts_agree
 unfolding verdict_of check_counts refuse_if
-returns-then-counts_agree c nvp w h border = rw (← c.counts_agree.ensures nvp w h border, c.if-counts_agree.true) refl
+returns-then-counts_agree c = λ nvp grid. rw (← c.counts_agree.ensures nvp grid, c.if-counts_agree.true) refl
 
 pub returns : goal.returns
 unfolding verdict_of check_counts refuse_if
-returns c nvp w h border = rw (← c.counts_agree.ensures nvp w h border, c.if-counts_agree.false) refl
+returns c = λ nvp grid. rw (← c.counts_agree.ensures nvp grid, c.if-counts_agree.false) refl

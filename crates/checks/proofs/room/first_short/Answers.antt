@@ -1,19 +1,18 @@
-use borrow.Author.Tests.{lt-ltb, le-ltb}
-use borrow.Author.Rules.{rules}
+-- `checks::room::first_short` meets its contract: `find` looks at the buffers in their order, as the rules do. Assumes nothing.
+use Rattle.std.proofs.Common.{◌≡◌, true, false, rules, tests}
+use Rattle.std.proofs.lemmas.Iterator.{first_from_Range}
+use Prim.Native.Nat.{ℕ}
+use mathlib.Core.Bool.{Bool}
+use lib.Dec.{ltb}
+use lib.ListN.{length, get_or}
 use Rattle.rules.specs.Checks.{first_short}
-use Rattle.checks.proofs.Seeking.{seek_begin, seek_next, seek_hit, seek_end}
+use Rattle.checks.proofs.Seeking.{found_first}
 use Rattle.checks.proofs.room.first_short.Goals as goal
 
-pub loop-k-init : goal.loop-k-init
-loop-k-init c = seek_begin _ _
-
-pub loop-k-preserved : goal.loop-k-preserved
-loop-k-preserved c = seek_next c.loop-k.invariant (search rules) (le-ltb _ _ c.if-have-k.false)
-
-pub returns-after-loop-k : goal.returns-after-loop-k
+pub returns : goal.returns
 unfolding first_short
-returns-after-loop-k c = seek_end c.loop-k.invariant (search rules)
-
-pub returns-then-have-k : goal.returns-then-have-k
-unfolding first_short
-returns-then-have-k c = seek_hit c.loop-k.invariant (search rules) (lt-ltb _ _ c.if-have-k.true)
+returns c =
+    let test : ℕ → Bool = λ k. ltb (get_or c.args.have k 0) (get_or c.args.least k 0) in
+    let long : length c.args.least ≡ 7 = search rules in
+    rw long (found_first test 7 _ (first_from_Range _ _ _ _ (λ k. test k ≡ true) (λ k. test k ≡ false) c.find.ensures.ran
+    (λ x q k. search (rules, tests)) (λ x q k. search (rules, tests))))

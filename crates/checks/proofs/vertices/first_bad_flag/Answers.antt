@@ -1,18 +1,17 @@
-use mathlib.Core.Path.{sym, ◌∙◌}
+-- `checks::vertices::first_bad_flag` meets its contract: `find` looks at the vertices in their order, as the rules do. Assumes nothing.
+use Rattle.std.proofs.Common.{◌≡◌, true, false, rules, tests}
+use Rattle.std.proofs.lemmas.Iterator.{first_from_Range}
+use Prim.Native.Nat.{ℕ}
+use mathlib.Core.Bool.{Bool}
+use lib.Dec.{ltb}
+use Rattle.rules.specs.Job.{flag_at}
 use Rattle.checks.specs.Answers.{first_bad_flag_in}
-use Rattle.checks.proofs.Seeking.{seek_begin, seek_next, seek_hit, seek_end}
+use Rattle.checks.proofs.Seeking.{found_first}
 use Rattle.checks.proofs.vertices.first_bad_flag.Goals as goal
 
-pub loop-k-init : goal.loop-k-init
-loop-k-init c = seek_begin _ c.args.n
-
-pub loop-k-preserved : goal.loop-k-preserved
-loop-k-preserved c = seek_next c.loop-k.invariant c.loop-k-test.true (sym c.is_bad_flag.ensures ∙ c.if-is_bad_flag.false)
-
-pub returns-after-loop-k : goal.returns-after-loop-k
+pub returns : goal.returns
 unfolding first_bad_flag_in
-returns-after-loop-k c = seek_end c.loop-k.invariant c.loop-k-test.false
-
-pub returns-then-is_bad_flag : goal.returns-then-is_bad_flag
-unfolding first_bad_flag_in
-returns-then-is_bad_flag c = seek_hit c.loop-k.invariant c.loop-k-test.true (sym c.is_bad_flag.ensures ∙ c.if-is_bad_flag.true)
+returns c =
+    let test : ℕ → Bool = λ k. ltb 1 (flag_at c.args.numbers.now k) in
+    found_first test c.args.n _ (first_from_Range _ _ _ _ (λ k. test k ≡ true) (λ k. test k ≡ false) c.find.ensures.ran
+    (λ x q k. search (rules, tests)) (λ x q k. search (rules, tests)))

@@ -1,18 +1,17 @@
-use mathlib.Core.Path.{sym, ◌∙◌}
+-- `checks::vertices::first_high` meets its contract: `find` looks at the vertices in their order, as the rules do. Assumes nothing.
+use Rattle.std.proofs.Common.{◌≡◌, true, false, rules, tests}
+use Rattle.std.proofs.lemmas.Iterator.{first_from_Range}
+use Prim.Native.Nat.{ℕ}
+use mathlib.Core.Bool.{Bool}
+use Rattle.rules.specs.Job.{vertex_at}
+use Rattle.rules.specs.Checks.{is_high}
 use Rattle.checks.specs.Answers.{first_high_in}
-use Rattle.checks.proofs.Seeking.{seek_begin, seek_next, seek_hit, seek_end}
+use Rattle.checks.proofs.Seeking.{found_first}
 use Rattle.checks.proofs.vertices.first_high.Goals as goal
 
-pub loop-k-init : goal.loop-k-init
-loop-k-init c = seek_begin _ c.args.n
-
-pub loop-k-preserved : goal.loop-k-preserved
-loop-k-preserved c = seek_next c.loop-k.invariant c.loop-k-test.true (sym c.is_high.ensures ∙ c.if-is_high.false)
-
-pub returns-after-loop-k : goal.returns-after-loop-k
+pub returns : goal.returns
 unfolding first_high_in
-returns-after-loop-k c = seek_end c.loop-k.invariant c.loop-k-test.false
-
-pub returns-then-is_high : goal.returns-then-is_high
-unfolding first_high_in
-returns-then-is_high c = seek_hit c.loop-k.invariant c.loop-k-test.true (sym c.is_high.ensures ∙ c.if-is_high.true)
+returns c =
+    let test : ℕ → Bool = λ k. is_high (vertex_at c.args.numbers.now k) in
+    found_first test c.args.n _ (first_from_Range _ _ _ _ (λ k. test k ≡ true) (λ k. test k ≡ false) c.find.ensures.ran
+    (λ x q k. search (rules, tests)) (λ x q k. search (rules, tests)))

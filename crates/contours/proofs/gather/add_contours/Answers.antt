@@ -28,7 +28,7 @@ returns-in-Err c =
 
 pub overflow_add-first : goal.overflow_add-first
 overflow_add-first c =
-    let short-enough : length c.args.numbers.now < 2 ^ 64 = omega arith in
+    let short-enough : length c.args.set.now.numbers.now < 2 ^ 64 = omega arith in
     record { fits = omega (arith, short-enough, going_first c.requires c.loop-c.invariant c.loop-c-test.true c.contour_at-k.ensures) }
 
 pub loop-c-preserved : goal.loop-c-preserved

@@ -4,7 +4,7 @@ use native.Mathlib.Omega.{arith}
 use Rattle.contours.proofs.gather.contour_at.Goals as goal
 
 pub overflow_cast-result : goal.overflow_cast-result
-overflow_cast-result c = record { fits = omega (arith, c.shared_slice_known-1.given c.args.c) }
+overflow_cast-result c = record { fits = omega (arith) }
 
 pub returns : goal.returns
 returns c = refl

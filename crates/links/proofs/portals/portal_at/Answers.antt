@@ -4,9 +4,9 @@ use Rattle.links.proofs.portals.portal_at.Goals as goal
 
 pub returns-then-link-eq-NONE : goal.returns-then-link-eq-NONE
 returns-then-link-eq-NONE c =
-    portal_open c.args.work.now c.args.at c.args.p.n _ c.args.g.w c.args.g.h _ c.args.j c.requires.1.below c.if-link-eq-NONE.true c.requires.0.fits
+    portal_open c.args.work.now c.args.at c.args.p.n _ c.args.g.grid.w c.args.g.grid.h _ c.args.j c.requires.1.below c.if-link-eq-NONE.true c.requires.0.fits
     c.side_portal.ensures
 
 pub returns : goal.returns
 returns c =
-    portal_linked c.args.work.now c.args.at c.args.p.n _ c.args.g.w c.args.g.h _ c.args.j c.requires.1.below c.if-link-eq-NONE.false c.requires.0.fits
+    portal_linked c.args.work.now c.args.at c.args.p.n _ c.args.g.grid.w c.args.g.grid.h _ c.args.j c.requires.1.below c.if-link-eq-NONE.false c.requires.0.fits
