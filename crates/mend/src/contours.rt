@@ -46,8 +46,8 @@ pub fn count_lost(lengths: &[u32], numbers: &mut [u16], list: &mut [u32], work: 
 {
     let mut first = 0;
     let mut lost = 0;
-    for c in 0..lengths.len() {
-        let n = link_at(lengths, c);
+    for length in lengths {
+        let n = *length as usize;
         let at = walk::<Counting>(numbers, list, work, first, n, lost);
         lost = at.lost;
         first += n;

@@ -78,15 +78,7 @@ fn off_ends<L: Losing>(numbers: &mut [u16], list: &mut [u32], stack: &[u32], at:
             let rest = off::<L>(numbers, list, stack, last - 1, last, lo, at);
             off::<L>(numbers, list, stack, last - 1, lo, lo + 1, rest)
         }
-        Ends::Last => off::<L>(
-            numbers,
-            list,
-            stack,
-            lo + (at.n - 1),
-            lo,
-            lo + 1,
-            at,
-        ),
+        Ends::Last => off::<L>(numbers, list, stack, lo + (at.n - 1), lo, lo + 1, at),
         Ends::LastTwo => {
             let last = lo + (at.n - 1);
             let rest = off::<L>(numbers, list, stack, last, lo, lo + 1, at);

@@ -75,10 +75,7 @@ fn pass<L: Losing>(
         }
         Meets::Neither => {
             work[top] = j as u32;
-            Walk {
-                top: top + 1,
-                ..at
-            }
+            Walk { top: top + 1, ..at }
         }
     }
 }

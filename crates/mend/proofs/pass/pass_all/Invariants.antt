@@ -1,6 +1,5 @@
 -- `mend::pass::pass_all` meets its contract: the loop's invariant is `Going`: the points that are left give the whole from the state that stands. The
 -- measure is how many are left. Assumes nothing.
-use Prim.Native.Nat.{◌-◌}
 use Rattle.mend.proofs.Going.{Going}
 use Rattle.mend.proofs.pass.pass_all.Given as goal
 
