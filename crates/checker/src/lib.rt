@@ -4,7 +4,6 @@
 
 mod mesh; // what is asked
 mod buffers; // 40: counts and limits
-mod unused; // words past the last corner
 mod ends; // the words of one polygon
 mod corners; // 41: corners in range
 mod sides; // 42: the link of one side
