@@ -23,7 +23,7 @@ pub fn header_from(inches: bool, numbers: &[f32]) -> Header
         z: numbers[5],
     };
     Header {
-        aabb: Aabb3d { min: min, max: max },
+        aabb: Aabb3d { min, max },
         cell_size: cell_size(inches, numbers[6]),
         cell_height: numbers[7],
         max_edge_error: numbers[8],

@@ -1,5 +1,4 @@
--- Loops that test place after place: all pass, some place does, or the first at fault is looked for. As long as nothing is decided, the answer of the whole is
--- that of the places that are left. Assumes nothing.
+-- What `all`, `any` and `find` give, of the words of a slice and of the numbers below n, in the words of the rules. Assumes nothing.
 use Rattle.std.specs.Prelude.{Option, Some, None}
 use Rattle.std.specs.Option.{MatchOption}
 use Rattle.std.specs.List.{list_all, list_any, range_with_len}
@@ -14,44 +13,6 @@ use Rattle.mem.specs.Slice.{view, view_cons}
 use Rattle.mem.specs.Loops.{Left, turn, next, end, run, over}
 use Rattle.rules.specs.Lists.{when, or_else}
 use Rattle.rules.specs.Handed.{all_of, any_of, first_fault}
-
--- ---- all pass
-
-abbrev pub Passing : (ℕ → Bool) → Bool → ℕ → ℕ → Type 0
-Passing test whole n k = Left true ◌&&◌ test (λ t. t) whole n k
-
-pub pass_begin : (test : ℕ → Bool) (a n : ℕ) → Passing test (all_of test a n) n a
-unfolding all_of
-pass_begin test a n = record { same = refl }
-
-module _ {test : ℕ → Bool} {whole : Bool} {n k : ℕ} (l : Passing test whole n k) where
-  pub pass_next : k < n → test k ≡ true → Passing test whole n (k + 1)
-  pass_next h e = next l h (λ r. rw e refl)
-
-  pub pass_fails : k < n → test k ≡ false → false ≡ whole
-  pass_fails h e = sym (turn l h ∙ rw e refl)
-
-  pub pass_end : n ≤ k → true ≡ whole
-  pass_end h = sym (end l h)
-
--- ---- some place does
-
-abbrev pub Seeking : (ℕ → Bool) → Bool → ℕ → ℕ → Type 0
-Seeking test whole n k = Left false ◌||◌ test (λ t. t) whole n k
-
-pub seek_begin : (test : ℕ → Bool) (n : ℕ) → Seeking test (any_of test 0 n) n 0
-unfolding any_of
-seek_begin test n = record { same = refl }
-
-module _ {test : ℕ → Bool} {whole : Bool} {n k : ℕ} (l : Seeking test whole n k) where
-  pub seek_next : k < n → test k ≡ false → Seeking test whole n (k + 1)
-  seek_next h e = next l h (λ r. rw e refl)
-
-  pub seek_found : k < n → test k ≡ true → true ≡ whole
-  seek_found h e = sym (turn l h ∙ rw e refl)
-
-  pub seek_end : n ≤ k → false ≡ whole
-  seek_end h = sym (end l h)
 
 -- ---- the first at fault
 

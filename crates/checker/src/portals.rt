@@ -21,7 +21,7 @@ fn place_at(vertices: &[u16], c: u16) -> Point
     requires { c < length vertices.now / vertex_stride }
     ensures { result ≡ place_of (vertices_in vertices.now) c }
 {
-    let at = c as usize * VERTEX_STRIDE;
+    let at = usize::from(c) * VERTEX_STRIDE;
     Point {
         x: vertices[at],
         z: vertices[at + 2],

@@ -12,7 +12,7 @@ fn pattern(n: u16, mm: f32) -> u32
     requires { T (is_length mm) }
     ensures { result ≡ coordinate mm n }
 {
-    f32::to_bits(n as f32 * mm)
+    f32::to_bits(f32::from(n) * mm)
 }
 
 // The four bytes of n lengths of mm, from `at` on.
