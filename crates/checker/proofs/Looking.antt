@@ -14,40 +14,31 @@ use Rattle.mem.specs.Loops.{Left, turn, next, end, run, over}
 use Rattle.rules.specs.Lists.{when, or_else}
 use Rattle.rules.specs.Handed.{all_of, any_of, first_fault}
 
--- ---- the first at fault
+-- ---- what `find` gives over the numbers below n
 
-pub record Faultless (good : ℕ → Bool) (whole : Option ℕ) (n k : ℕ) : Type 0 where
-  pub left : Left None or_else (λ i. when (not (good i)) i) (λ f. f) whole n k
-
-pub fault_begin : (good : ℕ → Bool) (n : ℕ) → Faultless good (first_fault good n) n 0
-unfolding first_fault
-fault_begin good n = record { left = record { same = refl } }
-
-module _ {good : ℕ → Bool} {whole : Option ℕ} {n k : ℕ} (l : Faultless good whole n k) where
-  pub fault_next : k < n → good k ≡ true → Faultless good whole n (k + 1)
+module _ (test : ℕ → Bool) (n : ℕ) where
+  none_before : (i : ℕ) → i ≤ n → ((k : ℕ) → 0 ≤ k → k < i → test k ≡ false)
+      → Left None or_else (λ i. when (test i) i) (λ f. f) (over None or_else (λ i. when (test i) i) 0 n) n i
   unfolding when or_else
-  fault_next h e = record { left = next l.left h (λ r. rw e refl) }
+  none_before zero h e = record { same = refl }
+  none_before (suc i) h e =
+      subst (Left None or_else (λ i. when (test i) i) (λ f. f) (over None or_else (λ i. when (test i) i) 0 n) n) (add-one i)
+      (next (none_before i (omega arith) (λ k a b. e k a (omega arith))) (omega arith) (λ r. rw (e i (omega arith) (omega arith)) refl))
 
-  pub fault_here : k < n → good k ≡ false → Some k ≡ whole
+  pub first_is : (r : Option ℕ)
+      → MatchOption r ((k : ℕ) → 0 ≤ k → k < n → test k ≡ false)
+      (λ i. (0 ≤ i) × (i < n) × (test i ≡ true) × ((k : ℕ) → 0 ≤ k → k < i → test k ≡ false))
+      → r ≡ over None or_else (λ i. when (test i) i) 0 n
   unfolding when or_else
-  fault_here h e = sym (turn l.left h ∙ rw e refl)
-
-  pub fault_end : n ≤ k → None ≡ whole
-  fault_end h = sym (end l.left h)
-
--- what `find` gives over the numbers below n
-faultless : {good : ℕ → Bool} {n : ℕ} (i : ℕ) → i ≤ n → ((k : ℕ) → 0 ≤ k → k < i → good k ≡ true) → Faultless good (first_fault good n) n i
-faultless {good} {n} zero h e = fault_begin good n
-faultless {good} {n} (suc i) h e =
-    subst (Faultless good (first_fault good n) n) (add-one i)
-    (fault_next (faultless i (omega arith) (λ k a b. e k a (omega arith))) (omega arith) (e i (omega arith) (omega arith)))
+  first_is None h = sym (end (none_before n (omega arith) h) (omega arith))
+  first_is (Some i) h = sym (turn (none_before i (omega (arith, h.1)) h.3) h.1 ∙ rw h.2 refl)
 
 pub first_found : (good : ℕ → Bool) (n : ℕ) (r : Option ℕ)
-    → MatchOption r ((k : ℕ) → 0 ≤ k → k < n → good k ≡ true)
-    (λ i. (0 ≤ i) × (i < n) × (good i ≡ false) × ((k : ℕ) → 0 ≤ k → k < i → good k ≡ true))
+    → MatchOption r ((k : ℕ) → 0 ≤ k → k < n → not (good k) ≡ false)
+    (λ i. (0 ≤ i) × (i < n) × (not (good i) ≡ true) × ((k : ℕ) → 0 ≤ k → k < i → not (good k) ≡ false))
     → r ≡ first_fault good n
-first_found good n None h = fault_end (faultless n (omega arith) h) (omega arith)
-first_found good n (Some i) h = fault_here (faultless i (omega (arith, h.1)) h.3) h.1 h.2
+unfolding first_fault
+first_found good n r h = first_is (λ k. not (good k)) n r h
 
 -- ---- what `all` gives over a part of a slice
 

@@ -1,6 +1,6 @@
 -- `checker::corners::first_bad_corners` meets its contract: what `find` gives is the first at fault. Assumes nothing.
 use mathlib.Core.Path.{◌≡◌}
-use mathlib.Core.Bool.{Bool, true, false}
+use mathlib.Core.Bool.{Bool, true, false, not}
 use Prim.Native.Nat.{ℕ}
 use borrow.Author.Rules.{rules}
 use borrow.Author.Tests.{tests}
@@ -13,5 +13,5 @@ pub returns : goal.returns
 returns c =
     let holds : ℕ → Bool = λ i. row_holds c.args.nv (row_at c.args.mesh.now.nvp c.args.mesh.now.polygons.now i) in
     first_found holds c.args.np c.find.result
-    (first_from_Range _ _ _ c.find.result (λ i. holds i ≡ false) (λ i. holds i ≡ true)
+    (first_from_Range _ _ _ c.find.result (λ i. not (holds i) ≡ true) (λ i. not (holds i) ≡ false)
     c.find.ensures.ran (λ x q k. search (rules, tests)) (λ x q k. search (rules, tests)))
