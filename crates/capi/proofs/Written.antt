@@ -1,4 +1,5 @@
 -- Numbers written one after the other into a list of as many places are the whole list. Assumes nothing.
+use Rattle.std.specs.Int.{from_bool}
 use Rattle.std.specs.Prelude.{Ok, Err}
 use mathlib.Core.Path.{◌≡◌, refl, sym, ◌∙◌}
 use mathlib.Core.Bool.{Bool, true, false, cond}
@@ -74,6 +75,11 @@ number_small (NoEarInContour c) = lit< tt
 number_small (NoEarInHole i) = lit< tt
 
 -- the answer's four numbers
+-- a unit's number is 1 for inches and 0 for millimetres
+pub unit_is : (inches : Bool) {u : ℕ} → u ≡ from_bool inches → u ≡ cond inches 1 0
+unit_is true e = e
+unit_is false e = e
+
 pub built_words : (reply : Reply) (inches : Bool) (n k u : ℕ) → reply ≡ Ok (as_built n k) → u ≡ cond inches 1 0 → 0 ∷ n ∷ k ∷ u ∷ [] ≡ answer_words reply inches
 unfolding answer_words number_of_reply second_of third_of
 built_words reply inches n k u e f = rw (e, f) refl

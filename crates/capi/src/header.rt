@@ -1,5 +1,5 @@
 // The header and the answer as numbers.
-ghost use Rattle.std.specs.Prelude.{cond, ◌≡◌, length};
+ghost use Rattle.std.specs.Prelude.{◌≡◌, length};
 ghost use Rattle.rules.specs.Replies.{number_of_reply};
 ghost use Rattle.capi.specs.Numbers.{header_length, answer_length, header_from, size_number, header_words, answer_words};
 
@@ -23,7 +23,7 @@ pub fn header_from(inches: bool, numbers: &[f32]) -> Header
         z: numbers[5],
     };
     Header {
-        aabb: Aabb3d { min: min, max: max },
+        aabb: Aabb3d { min, max },
         cell_size: cell_size(inches, numbers[6]),
         cell_height: numbers[7],
         max_edge_error: numbers[8],
@@ -58,22 +58,12 @@ pub fn put_header(header: Header, numbers: &mut [f32])
     numbers[8] = header.max_edge_error;
 }
 
-// The number of a unit: 0 for millimetres, 1 for inches.
-fn unit_number(inches: bool) -> u64
-    ensures { result ≡ cond inches 1 0 }
-{
-    if inches {
-        return 1;
-    }
-    0
-}
-
-// The numbers of a reply, and the unit; the result is the reply's number.
+// The numbers of a reply, and the unit: 0 for millimetres, 1 for inches. The result is the reply's number.
 pub fn put_answer(reply: Reply, inches: bool, words: &mut [u64]) -> u32
     requires { length words.old ≡ answer_length }
     ensures { (result ≡ number_of_reply reply) × (words.new ≡ answer_words reply inches) }
 {
-    let unit = unit_number(inches);
+    let unit = u64::from(inches);
     match reply {
         Ok(built) => {
             words[0] = 0;

@@ -7,7 +7,7 @@ pub fn put_three(words: &mut [u64], number: u32, second: u64, third: u64) -> u32
     requires { length words.old ≡ three_length }
     ensures { (result ≡ number) × (words.new ≡ (number ∷ second ∷ third ∷ [])) }
 {
-    words[0] = number as u64;
+    words[0] = u64::from(number);
     words[1] = second;
     words[2] = third;
     number

@@ -1,9 +1,10 @@
 -- 41: the words of a polygon, each way out of their test; and the words past its last corner, which are tested in a row that is lent. Assumes nothing.
 use Rattle.std.specs.Prelude.{None}
+use Rattle.std.specs.List.{list_all}
 use mathlib.Core.Path.{◌≡◌, refl, ap}
 use mathlib.Core.Bool.{Bool, true, false, not, ◌&&◌}
 use mathlib.Core.List.{List}
-use Prim.Native.Nat.{ℕ, ◌+◌, ◌*◌, ◌≤◌, ◌<◌}
+use Prim.Native.Nat.{ℕ, ◌+◌, ◌-◌, ◌*◌, ◌≤◌, ◌<◌}
 use native.Mathlib.Omega.{arith}
 use lib.Dec.{eqb, ltb}
 use lib.ListN.{length, get_or}
@@ -15,6 +16,7 @@ use Rattle.rules.specs.Links.{none}
 use Rattle.rules.specs.Exits.{up_to_none}
 use Rattle.rules.specs.Handed.{Handed, vertex_count, polygon_count, corner_word, all_of, first_fault, corners_hold}
 use Rattle.laws.proofs.HandedWords.{up_to_few, corners_read}
+use Rattle.checker.proofs.Looking.{all_from}
 use Rattle.checker.specs.Steps.{row_at, unused_from, row_holds}
 
 -- ---- each way out, where c is the count of the row's corners
@@ -32,6 +34,12 @@ module _ (nv : ℕ) (row : List ℕ) (c : ℕ) (q : c ≡ length (up_to_none row
     pub rest_decides : all_of (λ k. ltb (get_or row k 0) nv) 0 c ≡ true → unused_from row c ≡ row_holds nv row
     unfolding row_holds
     rest_decides e = rw (← q, le-leb 3 c h, e) refl
+
+-- ---- the words past the last corner
+
+pub unused_all : (ws : List ℕ) (a : ℕ) → a ≤ length ws → list_all (λ w. eqb w none) (view ws a (length ws - a)) ≡ unused_from ws a
+unfolding unused_from
+unused_all ws a h = all_from (λ w. eqb w none) ws a h
 
 -- ---- a row that is lent is tested as the buffer's words
 

@@ -26,12 +26,7 @@ fn are_in_grid(vertices: &[u16], n: usize) -> bool
     requires { n * vertex_stride ≤ length vertices.now }
     ensures { result ≡ grid_holds vertices.now n }
 {
-    for k in 0..n {
-        if is_high(vertices, k) {
-            return false;
-        }
-    }
-    true
+    (0..n).all(|k| !is_high(vertices, k))
 }
 
 // Whether 40 passes. nvp comes first, since the polygons are counted by it; then the counts, so that no product wraps.

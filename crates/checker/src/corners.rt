@@ -4,20 +4,14 @@ ghost use Rattle.rules.specs.Handed.{all_of, first_fault};
 ghost use Rattle.checker.specs.Steps.{row_holds, row_at};
 
 use crate::mesh::Mesh;
-use crate::unused::are_unused;
-use stored::corners::count_corners;
+use stored::corners::{UNUSED, count_corners};
 
 // Whether the first n words of a row are vertices, of which there are nv.
 fn are_vertices(row: &[u16], n: usize, nv: usize) -> bool
     requires { n ≤ length row.now }
     ensures { result ≡ all_of (λ k. ltb (get_or row.now k 0) nv) 0 n }
 {
-    for k in 0..n {
-        if nv <= row[k] as usize {
-            return false;
-        }
-    }
-    true
+    row[..n].iter().all(|c| usize::from(*c) < nv)
 }
 
 // Whether the words of a polygon pass.
@@ -28,10 +22,7 @@ fn row_holds(row: &[u16], nv: usize) -> bool
     if n < 3 {
         return false;
     }
-    if are_vertices(row, n, nv) {
-        return are_unused(row, n);
-    }
-    false
+    are_vertices(row, n, nv) && row[n..].iter().all(|c| *c == UNUSED)
 }
 
 // The first of np polygons that doesn't.
@@ -39,11 +30,8 @@ pub fn first_bad_corners(mesh: &Mesh<'_>, nv: usize, np: usize) -> Option<usize>
     requires { np * mesh.now.nvp ≤ length mesh.now.polygons.now }
     ensures { result ≡ first_fault (λ i. row_holds nv (row_at mesh.now.nvp mesh.now.polygons.now i)) np }
 {
-    for i in 0..np {
+    (0..np).find(|i| {
         let from = i * mesh.nvp;
-        if !row_holds(&mesh.polygons[from..from + mesh.nvp], nv) {
-            return Some(i);
-        }
-    }
-    None
+        !row_holds(&mesh.polygons[from..from + mesh.nvp], nv)
+    })
 }

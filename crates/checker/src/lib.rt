@@ -2,9 +2,8 @@
 // in every request that takes a mesh; `check::check_mesh` is the checker; the other modules are their steps.
 #![tactic(auto)]
 
-mod mesh; // what is asked
+pub mod mesh; // what is asked
 mod buffers; // 40: counts and limits
-mod unused; // words past the last corner
 mod ends; // the words of one polygon
 mod corners; // 41: corners in range
 mod sides; // 42: the link of one side

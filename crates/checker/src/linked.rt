@@ -7,19 +7,14 @@ ghost use Rattle.checker.specs.Steps.{RowsReady, PolygonAt};
 use crate::ends::corners_end;
 use crate::mesh::Mesh;
 use crate::sides::link_holds;
-use crate::unused::are_unlinked;
+use records::polygon::NONE;
 
 // Whether the link of each side of polygon i holds; `own` are its corners, and `mine` its links.
 fn sides_hold(mesh: &Mesh<'_>, np: usize, i: usize, own: &[u16], mine: &[u32]) -> bool
     requires { PolygonAt (linked mesh.now) np i own.now mine.now }
     ensures { result ≡ all_of (link_holds (mesh_in (linked mesh.now)) i) 0 (length own.now) }
 {
-    for j in 0..own.len() {
-        if !link_holds(mesh, np, i, own, mine, j) {
-            return false;
-        }
-    }
-    true
+    (0..own.len()).all(|j| link_holds(mesh, np, i, own, mine, j))
 }
 
 // Whether the links of polygon i pass.
@@ -29,11 +24,10 @@ fn links_hold(mesh: &Mesh<'_>, np: usize, i: usize) -> bool
 {
     let from = i * mesh.nvp;
     let to = corners_end(mesh, i);
-    if sides_hold(mesh, np, i, &mesh.polygons[from..to], &mesh.links[from..to]) {
-        let n = to - from;
-        return are_unlinked(&mesh.links[from..from + mesh.nvp], n);
-    }
-    false
+    sides_hold(mesh, np, i, &mesh.polygons[from..to], &mesh.links[from..to])
+        && mesh.links[to..from + mesh.nvp]
+            .iter()
+            .all(|link| *link == NONE)
 }
 
 // The first of np polygons whose links don't.
@@ -41,10 +35,5 @@ pub fn first_bad_links(mesh: &Mesh<'_>, np: usize) -> Option<usize>
     requires { RowsReady (linked mesh.now) × (np ≡ polygon_count (linked mesh.now)) }
     ensures { result ≡ first_fault (links_hold (linked mesh.now)) np }
 {
-    for i in 0..np {
-        if !links_hold(mesh, np, i) {
-            return Some(i);
-        }
-    }
-    None
+    (0..np).find(|i| !links_hold(mesh, np, *i))
 }

@@ -21,7 +21,7 @@ fn place_at(vertices: &[u16], c: u16) -> Point
     requires { c < length vertices.now / vertex_stride }
     ensures { result ≡ place_of (vertices_in vertices.now) c }
 {
-    let at = c as usize * VERTEX_STRIDE;
+    let at = usize::from(c) * VERTEX_STRIDE;
     Point {
         x: vertices[at],
         z: vertices[at + 2],
@@ -60,12 +60,7 @@ fn sides_bear(vertices: &[u16], grid: Grid, own: &[u16], mine: &[u32]) -> bool
     requires { SidesReady vertices.now own.now mine.now }
     ensures { result ≡ all_of (side_bears vertices.now grid.w grid.h grid.border own.now mine.now) 0 (length own.now) }
 {
-    for j in 0..own.len() {
-        if !side_bears(vertices, grid, own, mine, j) {
-            return false;
-        }
-    }
-    true
+    (0..own.len()).all(|j| side_bears(vertices, grid, own, mine, j))
 }
 
 // Whether polygon i passes.
@@ -90,10 +85,5 @@ pub fn first_bad_portals(mesh: &Mesh<'_>, np: usize, grid: Grid) -> Option<usize
         × (np ≡ polygon_count (handed mesh.now)) }
     ensures { result ≡ first_fault (portals_hold (unclaimed mesh.now grid)) np }
 {
-    for i in 0..np {
-        if !portals_hold(mesh, grid, i) {
-            return Some(i);
-        }
-    }
-    None
+    (0..np).find(|i| !portals_hold(mesh, grid, *i))
 }

@@ -31,12 +31,7 @@ fn is_named_back(corners: &[u16], links: &[u32], a: u16, b: u16, i: u32) -> bool
     requires { length links.now ≡ length corners.now }
     ensures { result ≡ any_of (names_back corners.now links.now a b i) 0 (length corners.now) }
 {
-    for q in 0..corners.len() {
-        if names_back(corners, links, a, b, i, q) {
-            return true;
-        }
-    }
-    false
+    (0..corners.len()).any(|q| names_back(corners, links, a, b, i, q))
 }
 
 // Whether some side of polygon l does.

@@ -1,12 +1,13 @@
 -- Vertices move down, one after the other: what was written does not reach those that are still to move. Assumes nothing.
 -- Key: `closing_begin`, `closing_both`, `closing_more`, `closing_end`: the loop's begin, what a move asks for, its turn and its end.
 use mathlib.Core.Path.{◌≡◌, refl, sym, ap, ap₂, ◌∙◌}
-use mathlib.Core.List.{List, [], ◌∷◌, ◌++◌, map}
-use Prim.Native.Nat.{ℕ, ◌+◌, ◌*◌, ◌≤◌, ◌<◌}
+use mathlib.Core.List.{List, [], ◌∷◌, ◌++◌, append_assoc, map}
+use Prim.Native.Nat.{ℕ, ◌+◌, ◌-◌, ◌*◌, ◌≤◌, ◌<◌}
 use native.Mathlib.Omega.{arith}
-use lib.ListN.{length, get_or, set, take, length-map}
+use lib.ListN.{length, get_or, drop, take, length-map}
 use lib.Seq.{length-take-le, take_all}
-use Rattle.mem.specs.Slice.{splice, splice_nil, splice_append, length_splice, get_or_splice_above, stored_each, set_each, take_snoc}
+use Rattle.std.specs.List.{copy_within}
+use Rattle.mem.specs.Slice.{splice, splice_nil, splice_append, length_splice, get_or_splice_above, splice_eq, view, view_snoc, length_view, take_snoc}
 use Rattle.mem.specs.Packed.{packed, packed_append}
 use Rattle.rules.specs.Job.{job_stride, vertex_at, flag_at}
 use Rattle.rules.specs.Mend.{Traced}
@@ -17,12 +18,30 @@ use Rattle.mend.specs.Losing.{BothIn}
 use Rattle.mend.specs.Closing.{CloseReady}
 
 -- the four numbers are those of the vertex
-pub moved : (ns : List ℕ) (from to : ℕ) → set_each (set ns (to * job_stride) (get_or ns (from * job_stride) 0)) (to * job_stride) 1
-    (get_or ns (from * job_stride + 1) 0 ∷ get_or ns (from * job_stride + 2) 0 ∷ get_or ns (from * job_stride + 3) 0 ∷ [])
-    ≡ splice ns (to * job_stride) (traced_words (point_of ns from))
+view_four : (ns : List ℕ) (o : ℕ) → o + 4 ≤ length ns
+    → view ns o 4 ≡ get_or ns o 0 ∷ get_or ns (o + 1) 0 ∷ get_or ns (o + 2) 0 ∷ get_or ns (o + 3) 0 ∷ []
+view_four ns o h = rw (
+  view_snoc ns o 3 0 (omega arith),
+  view_snoc ns o 2 0 (omega arith),
+  view_snoc ns o 1 0 (omega arith),
+  view_snoc ns o 0 0 (omega arith),
+  native.Mathlib.Nat.add-zero o,
+) refl
+
+pub moved : (ns : List ℕ) (from to : ℕ) {ns' : List ℕ} → BothIn ns from to
+    → ns' ≡ copy_within ns (from * job_stride) (from * job_stride + job_stride) (to * job_stride)
+    → ns' ≡ splice ns (to * job_stride) (traced_words (point_of ns from))
 unfolding traced_words point_of vertex_at flag_at
-moved ns from to = stored_each ns (to * job_stride) (get_or ns (from * job_stride) 0)
-    (get_or ns (from * job_stride + 1) 0 ∷ get_or ns (from * job_stride + 2) 0 ∷ get_or ns (from * job_stride + 3) 0 ∷ [])
+moved ns from to b e =
+    let a = from * job_stride in
+    let o = to * job_stride in
+    let xs = view ns a job_stride in
+    let four : length xs ≡ job_stride = length_view ns a job_stride b.one in
+    let n : a + job_stride - a ≡ job_stride = omega arith in
+    e ∙ rw n (append_assoc (take o ns) xs (drop (o + job_stride) ns))
+    ∙ ap (λ (i : ℕ). take o ns ++ (xs ++ drop (o + i) ns)) (sym four)
+    ∙ sym (splice_eq ns o xs (omega (arith, b.other, four)))
+    ∙ ap (splice ns o) (view_four ns a b.one)
 
 pub length_words : (ps : List Traced) → length (packed traced_words ps) ≡ length ps * job_stride
 unfolding packed traced_words

@@ -1,5 +1,4 @@
 -- one point is lost; the points are passed
-pub mod Losing
 pub mod Walking
 pub mod Meeting
 pub mod Passing

@@ -21,11 +21,11 @@ use Rattle.mend.proofs.Passing.{room_less}
 use Rattle.mend.proofs.Going.{length_listed}
 use Rattle.mend.proofs.EndTurns.{here_stands}
 
-pub record Taking (t : Bool) (ns₀ ls₀ st : List ℕ) (from : Span) (ns ls : List ℕ) (at : Span) (left : ℕ) : Type 0 where
+pub record Taking (t : Bool) (ns₀ ls₀ st : List ℕ) (from : Span) (ns ls : List ℕ) (at : Span) (turn : ℕ) : Type 0 where
   pub state : Ending
   pub held : Held ns₀ st
   pub stands : StandsAt t ls₀ from.lost state ns ls at
-  pub same : times (end_turn t st) from.n (end_of ns₀ from []) ≡ times (end_turn t st) left state
+  pub same : times (end_turn t st) from.n (end_of ns₀ from []) ≡ times (end_turn t st) (from.n - turn) state
   pub fine : FineEnds 0 held.e ns₀ st state
   pub count : state.n + length state.lost ≡ from.n
   pub long_numbers : length ns ≡ length ns₀
@@ -42,12 +42,12 @@ turn_adds {t} {ns = ns} {w = w} {at} st s =
     ∙ length-append w.lost (end_turn t st (end_of ns at [])).lost
 
 module _ {t : Bool} {ns₀ ls₀ st : List ℕ} {from : Span} (r : TakeReady t ns₀ ls₀ st from) where
-  pub taking_begin : Taking t ns₀ ls₀ st from ns₀ ls₀ from from.n
+  pub taking_begin : Taking t ns₀ ls₀ st from ns₀ ls₀ from 0
   taking_begin = record {
     state = end_of ns₀ from [];
     held = r.ready.held;
     stands = here_stands t ns₀ ls₀ from;
-    same = refl;
+    same = ap (λ (i : ℕ). times (end_turn t st) i (end_of ns₀ from [])) (omega arith);
     fine = record {
       within = r.ready.within;
       low = all_imp (λ k (a : k < r.ready.held.e). omega arith) r.ready.held.high;
@@ -59,8 +59,8 @@ module _ {t : Bool} {ns₀ ls₀ st : List ℕ} {from : Span} (r : TakeReady t n
     long_list = refl;
   }
 
-  module _ {ns ls : List ℕ} {at : Span} {left : ℕ} (g : Taking t ns₀ ls₀ st from ns ls at left) where
-    pub taking_ready : 0 < left → TurnReady t ns ls st at
+  module _ {ns ls : List ℕ} {at : Span} {turn : ℕ} (g : Taking t ns₀ ls₀ st from ns ls at turn) where
+    pub taking_ready : turn < from.n → TurnReady t ns ls st at
     taking_ready h = record {
       ready = record {
         held = record { e = g.held.e; high = g.held.high; inside = omega (arith, g.held.inside, g.long_numbers); small = g.held.small };
@@ -73,14 +73,14 @@ module _ {t : Bool} {ns₀ ls₀ st : List ℕ} {from : Span} (r : TakeReady t n
             arith,
             g.stands.lost,
             turn_adds st g.stands,
-            turns_grow t st (left - 1) (end_turn t st g.state),
-            ap (λ (w : Ending). length w.lost) (g.same ∙ times_turn (end_turn t st) left g.state h),
+            turns_grow t st (from.n - turn - 1) (end_turn t st g.state),
+            ap (λ (w : Ending). length w.lost) (g.same ∙ times_turn (end_turn t st) (from.n - turn) g.state (omega arith)),
           ))
           r.room);
     }
 
     -- what stands there after a turn
-    pub taking_more : {ns' ls' : List ℕ} {at' : Span} → 0 < left → Turned t at at' st ns ls ns' ls' → Taking t ns₀ ls₀ st from ns' ls' at' (left - 1)
+    pub taking_more : {ns' ls' : List ℕ} {at' : Span} → turn < from.n → Turned t at at' st ns ls ns' ls' → Taking t ns₀ ls₀ st from ns' ls' at' (turn + 1)
     taking_more h p =
         let w = end_turn t st g.state in
         let s = p.stands ls₀ from.lost g.state g.stands in
@@ -89,7 +89,8 @@ module _ {t : Bool} {ns₀ ls₀ st : List ℕ} {from : Span} (r : TakeReady t n
           state = w;
           held = g.held;
           stands = s;
-          same = g.same ∙ times_turn (end_turn t st) left g.state h;
+          same = g.same ∙ times_turn (end_turn t st) (from.n - turn) g.state (omega arith)
+              ∙ ap (λ (i : ℕ). times (end_turn t st) i w) (omega arith);
           fine = f;
           count = turn_count t st g.state ∙ g.count;
           long_numbers = ap length s.numbers ∙ f.outside.size;
@@ -104,11 +105,11 @@ module _ {t : Bool} {ns₀ ls₀ st : List ℕ} {from : Span} (r : TakeReady t n
         let still = turn_still t st w (omega (arith, s.n, e, g.stands.n)) in
         record {
           stands = subst (λ (v : Ending). StandsAt t ls₀ from.lost v ns' ls' at')
-              (sym (g.same ∙ times_still (end_turn t st) left w still)) (subst (λ (v : Ending). StandsAt t ls₀ from.lost v ns' ls' at') still s);
+              (sym (g.same ∙ times_still (end_turn t st) (from.n - turn) w still)) (subst (λ (v : Ending). StandsAt t ls₀ from.lost v ns' ls' at') still s);
         }
 
-    pub taking_end : left ≤ 0 → Taken t from at st ns₀ ls₀ ns ls
-    taking_end h = let z : left ≡ 0 = omega arith in record {
+    pub taking_end : from.n ≤ turn → Taken t from at st ns₀ ls₀ ns ls
+    taking_end h = let z : from.n - turn ≡ 0 = omega arith in record {
       stands = subst (λ (v : Ending). StandsAt t ls₀ from.lost v ns ls at)
           (sym (g.same ∙ ap (λ (i : ℕ). times (end_turn t st) i g.state) z ∙ times_end (end_turn t st) g.state)) g.stands;
     }

@@ -16,16 +16,8 @@ fn move_vertex(numbers: &mut [u16], from: usize, to: usize)
     requires { BothIn numbers.old from to }
     ensures { numbers.new ≡ splice numbers.old (to * job_stride) (traced_words (point_of numbers.old from)) }
 {
-    let a = from * JOB_STRIDE;
-    let x = numbers[a];
-    let y = numbers[a + 1];
-    let z = numbers[a + 2];
-    let flag = numbers[a + 3];
-    let b = to * JOB_STRIDE;
-    numbers[b] = x;
-    numbers[b + 1] = y;
-    numbers[b + 2] = z;
-    numbers[b + 3] = flag;
+    let at = from * JOB_STRIDE;
+    numbers.copy_within(at..at + JOB_STRIDE, to * JOB_STRIDE);
 }
 
 // The vertices of these numbers, which rise, move to the places from `to` on.

@@ -2,6 +2,7 @@
 ghost use Rattle.mend.specs.Contours.{ContourReady, ContourMended, CountReady, Counted, AllReady, AllMended};
 
 use crate::close::close_up;
+use crate::lose::{Counting, Writing};
 use crate::walk::walk;
 use words::places::link_at;
 
@@ -27,7 +28,7 @@ fn mend_contour(
     ensures { ContourMended first n to lost result numbers.old list.old work.old numbers.new
         list.new work.new }
 {
-    let at = walk(true, numbers, list, work, first, n, lost);
+    let at = walk::<Writing>(numbers, list, work, first, n, lost);
     let lo = at.lo;
     let kept = at.n;
     close_up(numbers, &work[lo..lo + kept], to);
@@ -45,9 +46,9 @@ pub fn count_lost(lengths: &[u32], numbers: &mut [u16], list: &mut [u32], work: 
 {
     let mut first = 0;
     let mut lost = 0;
-    for c in 0..lengths.len() {
-        let n = link_at(lengths, c);
-        let at = walk(false, numbers, list, work, first, n, lost);
+    for length in lengths {
+        let n = *length as usize;
+        let at = walk::<Counting>(numbers, list, work, first, n, lost);
         lost = at.lost;
         first += n;
     }

@@ -1,7 +1,7 @@
 // When all points are passed only the two ends of the stack can be at fault. `stack` is all of it; what is left is a part of it.
 ghost use Rattle.mend.specs.Ending.{OffReady, Off, EndsReady, EndsMet, TurnReady, Turned, TakeReady, Taken};
 
-use crate::lose::{lose, same_place};
+use crate::lose::{Losing, same_place};
 use words::places::link_at;
 
 // What is left: n numbers of the stack from `lo` on; and how many points are lost.
@@ -22,8 +22,7 @@ enum Ends {
 }
 
 // The number at the place `gone` of the stack is lost after the one at `kept`; what is left begins at `lo` then.
-fn off(
-    writes: bool,
+fn off<L: Losing>(
     numbers: &mut [u16],
     list: &mut [u32],
     stack: &[u32],
@@ -32,12 +31,12 @@ fn off(
     lo: usize,
     at: Span,
 ) -> Span
-    requires { OffReady writes numbers.old list.old stack.now kept gone at }
-    ensures { Off writes kept gone lo at result stack.now numbers.old list.old numbers.new list.new }
+    requires { OffReady L.writes numbers.old list.old stack.now kept gone at }
+    ensures { Off L.writes kept gone lo at result stack.now numbers.old list.old numbers.new list.new }
 {
     let p = link_at(stack, kept);
     let q = link_at(stack, gone);
-    lose(writes, numbers, list, at.lost, p, q);
+    L::lose(numbers, list, at.lost, p, q);
     Span {
         lo,
         n: at.n - 1,
@@ -68,56 +67,44 @@ fn ends_meet(numbers: &[u16], stack: &[u32], at: Span) -> Ends
 }
 
 // What the ends lose at one turn.
-fn off_ends(writes: bool, numbers: &mut [u16], list: &mut [u32], stack: &[u32], at: Span) -> Span
-    requires { TurnReady writes numbers.old list.old stack.now at }
-    ensures { Turned writes at result stack.now numbers.old list.old numbers.new list.new }
+fn off_ends<L: Losing>(numbers: &mut [u16], list: &mut [u32], stack: &[u32], at: Span) -> Span
+    requires { TurnReady L.writes numbers.old list.old stack.now at }
+    ensures { Turned L.writes at result stack.now numbers.old list.old numbers.new list.new }
 {
     let lo = at.lo;
     match ends_meet(numbers, stack, at) {
         Ends::Near => {
             let last = lo + (at.n - 1);
-            let rest = off(writes, numbers, list, stack, last - 1, last, lo, at);
-            off(writes, numbers, list, stack, last - 1, lo, lo + 1, rest)
+            let rest = off::<L>(numbers, list, stack, last - 1, last, lo, at);
+            off::<L>(numbers, list, stack, last - 1, lo, lo + 1, rest)
         }
-        Ends::Last => off(
-            writes,
-            numbers,
-            list,
-            stack,
-            lo + (at.n - 1),
-            lo,
-            lo + 1,
-            at,
-        ),
+        Ends::Last => off::<L>(numbers, list, stack, lo + (at.n - 1), lo, lo + 1, at),
         Ends::LastTwo => {
             let last = lo + (at.n - 1);
-            let rest = off(writes, numbers, list, stack, last, lo, lo + 1, at);
-            off(writes, numbers, list, stack, last, lo + 1, lo + 2, rest)
+            let rest = off::<L>(numbers, list, stack, last, lo, lo + 1, at);
+            off::<L>(numbers, list, stack, last, lo + 1, lo + 2, rest)
         }
         Ends::Apart => at,
     }
 }
 
 // The ends lose what they have to lose, turn by turn.
-pub fn take_ends(
-    writes: bool,
+pub fn take_ends<L: Losing>(
     numbers: &mut [u16],
     list: &mut [u32],
     stack: &[u32],
     from: Span,
 ) -> Span
-    requires { TakeReady writes numbers.old list.old stack.now from }
-    ensures { Taken writes from result stack.now numbers.old list.old numbers.new list.new }
+    requires { TakeReady L.writes numbers.old list.old stack.now from }
+    ensures { Taken L.writes from result stack.now numbers.old list.old numbers.new list.new }
 {
     let mut at = from;
-    let mut turns = from.n;
-    while turns > 0 {
-        let next = off_ends(writes, numbers, list, stack, at);
+    for _ in 0..from.n {
+        let next = off_ends::<L>(numbers, list, stack, at);
         if next.n == at.n {
             return next;
         }
         at = next;
-        turns -= 1;
     }
     at
 }

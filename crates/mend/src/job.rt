@@ -8,7 +8,6 @@ use crate::contours::{count_lost, mend_all};
 use checks::counts::{JOB_STRIDE, MOST_CONTOURS, count_all};
 use rules::{MendRefusal, Mended};
 use words::fill::fill;
-use words::places::link_at;
 
 // More vertices than this have numbers that no word of the list holds.
 const MOST_VERTICES: usize = 4294967295;
@@ -28,8 +27,8 @@ fn longest_of(lengths: &[u32]) -> usize
     ensures { result ≡ longest lengths.now }
 {
     let mut most = 0;
-    for c in 0..lengths.len() {
-        most = most.max(link_at(lengths, c));
+    for n in lengths {
+        most = most.max(*n as usize);
     }
     most
 }

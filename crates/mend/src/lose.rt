@@ -1,5 +1,5 @@
 // One point is lost.
-ghost use Rattle.std.specs.Prelude.{◌≡◌};
+ghost use Rattle.std.specs.Prelude.{◌≡◌, Bool, true, false};
 ghost use Rattle.laws.specs.MendNumbers.{carried, same_place};
 ghost use Rattle.mend.specs.Losing.{BothIn, LoseReady, Lost};
 
@@ -25,12 +25,33 @@ fn carry(numbers: &mut [u16], p: usize, q: usize)
     }
 }
 
-// The vertex q is lost, and p kept: p takes its 1, and the list its number. Nothing is written by a walk that only counts.
-pub fn lose(writes: bool, numbers: &mut [u16], list: &mut [u32], lost: usize, p: usize, q: usize)
-    requires { LoseReady writes numbers.old list.old lost p q }
-    ensures { Lost writes numbers.old list.old numbers.new list.new lost p q }
-{
-    if writes {
+// What a walk does with a point that is lost.
+pub trait Losing {
+    // whether it writes
+    ghost writes: { Bool };
+
+    // The vertex q is lost, and p kept.
+    fn lose(numbers: &mut [u16], list: &mut [u32], lost: usize, p: usize, q: usize)
+        requires { LoseReady writes numbers.old list.old lost p q }
+        ensures { Lost writes numbers.old list.old numbers.new list.new lost p q };
+}
+
+// A walk that only counts: nothing is written.
+pub struct Counting;
+
+impl Losing for Counting {
+    ghost writes = { false };
+
+    fn lose(_numbers: &mut [u16], _list: &mut [u32], _lost: usize, _p: usize, _q: usize) {}
+}
+
+// A walk that writes: p takes q's 1, and the list q's number.
+pub struct Writing;
+
+impl Losing for Writing {
+    ghost writes = { true };
+
+    fn lose(numbers: &mut [u16], list: &mut [u32], lost: usize, p: usize, q: usize) {
         carry(numbers, p, q);
         list[lost] = q as u32;
     }

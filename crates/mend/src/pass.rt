@@ -1,7 +1,7 @@
 // The points of a contour are passed, one after the other. Those that are kept so far are a stack of numbers at the scratch's beginning.
 ghost use Rattle.mend.specs.Walking.{MeetsReady, Met, PassReady, Passed, AllReady, AllPassed};
 
-use crate::lose::{lose, same_place};
+use crate::lose::{Losing, same_place};
 use words::places::link_at;
 
 // How high the stack is, and how many points are lost.
@@ -40,8 +40,7 @@ fn meeting(numbers: &[u16], work: &[u32], top: usize, e: usize, j: usize) -> Mee
 }
 
 // The point j is passed: it is lost if it is doubled, lost with the top if it comes back, and else joins.
-fn pass(
-    writes: bool,
+fn pass<L: Losing>(
     numbers: &mut [u16],
     list: &mut [u32],
     work: &mut [u32],
@@ -49,8 +48,8 @@ fn pass(
     j: usize,
     at: Walk,
 ) -> Walk
-    requires { PassReady writes numbers.old list.old work.old e j at }
-    ensures { Passed writes e j at result numbers.old list.old work.old numbers.new list.new
+    requires { PassReady L.writes numbers.old list.old work.old e j at }
+    ensures { Passed L.writes e j at result numbers.old list.old work.old numbers.new list.new
         work.new }
 {
     let top = at.top;
@@ -58,17 +57,17 @@ fn pass(
     match meeting(numbers, work, top, e, j) {
         Meets::Top => {
             let p = link_at(work, top - 1);
-            lose(writes, numbers, list, lost, p, j);
+            L::lose(numbers, list, lost, p, j);
             Walk {
-                top,
                 lost: lost + 1,
+                ..at
             }
         }
         Meets::Second => {
             let p = link_at(work, top - 2);
             let q = link_at(work, top - 1);
-            lose(writes, numbers, list, lost, p, q);
-            lose(writes, numbers, list, lost + 1, p, j);
+            L::lose(numbers, list, lost, p, q);
+            L::lose(numbers, list, lost + 1, p, j);
             Walk {
                 top: top - 1,
                 lost: lost + 2,
@@ -76,14 +75,13 @@ fn pass(
         }
         Meets::Neither => {
             work[top] = j as u32;
-            Walk { top: top + 1, lost }
+            Walk { top: top + 1, ..at }
         }
     }
 }
 
 // All points of a contour from `first` up to e are passed.
-pub fn pass_all(
-    writes: bool,
+pub fn pass_all<L: Losing>(
     numbers: &mut [u16],
     list: &mut [u32],
     work: &mut [u32],
@@ -91,14 +89,14 @@ pub fn pass_all(
     e: usize,
     lost: usize,
 ) -> Walk
-    requires { AllReady writes numbers.old list.old work.old first e lost }
-    ensures { AllPassed writes first e lost result numbers.old list.old work.old numbers.new
+    requires { AllReady L.writes numbers.old list.old work.old first e lost }
+    ensures { AllPassed L.writes first e lost result numbers.old list.old work.old numbers.new
         list.new work.new }
 {
     work[0] = first as u32;
     let mut at = Walk { top: 1, lost };
     for j in first + 1..e {
-        at = pass(writes, numbers, list, work, e, j, at);
+        at = pass::<L>(numbers, list, work, e, j, at);
     }
     at
 }

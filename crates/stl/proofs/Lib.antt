@@ -1,8 +1,6 @@
 -- Laws that the proofs of this crate share.
 -- a part of a slice is written
 pub mod Parts
--- the search for the first byte that is wrong
-pub mod Searching
 -- the facets of polygons, written and counted
 pub mod Fanning
 pub mod Counted

@@ -5,6 +5,21 @@ ghost use Rattle.rules.specs.Stl.{is_length};
 
 use plane::unit::{cell_size, to_millimetres};
 
+// A cell's size and height with their unit, as they are handed in.
+#[derive(Clone, Copy, Debug, PartialEq)]
+pub struct Scale {
+    pub inches: bool,
+    pub size: f32,
+    pub height: f32,
+}
+
+// A cell's size and height in millimetres.
+#[derive(Clone, Copy, Debug, PartialEq)]
+pub struct Lengths {
+    pub size: f32,
+    pub height: f32,
+}
+
 // A size or a height in millimetres.
 pub fn in_millimetres(inches: bool, x: f32) -> f32
     ensures { result ≡ millimetres (size_in inches x) }

@@ -8,53 +8,40 @@ ghost use Rattle.stl.specs.Steps.{scale_in, count_of, file_in, MeshSound, FileRe
 
 use crate::fans::{count_facets, put_facets};
 use crate::header::{FACET_BYTES, FRONT_BYTES, put_header};
-use crate::scale::{in_millimetres, is_length};
+use crate::scale::{Lengths, Scale, in_millimetres, is_length};
 use checker::check::soundness_of;
+use checker::mesh::Mesh;
 use rules::StlRefusal;
 
 // The file of a sound mesh whose size and height, in millimetres, are lengths; or 71.
-fn put_file(
-    nvp: usize,
-    size: f32,
-    height: f32,
-    vertices: &[u16],
-    polygons: &[u16],
-    file: &mut [u8],
-) -> Result<u64, StlRefusal>
-    requires { FileReady size height nvp vertices.now polygons.now }
-    ensures answer { result ≡ room_reply (count_of nvp polygons.now) (length file.old) }
-    ensures bytes { file.new ≡ stl_left (file_in size height nvp vertices.now polygons.now) file.old result }
+fn put_file(mesh: &Mesh<'_>, lengths: Lengths, file: &mut [u8]) -> Result<u64, StlRefusal>
+    requires { FileReady lengths.size lengths.height mesh.now.nvp mesh.now.vertices.now mesh.now.polygons.now }
+    ensures answer { result ≡ room_reply (count_of mesh.now.nvp mesh.now.polygons.now) (length file.old) }
+    ensures bytes { file.new ≡ stl_left (file_in lengths.size lengths.height mesh.now.nvp mesh.now.vertices.now
+        mesh.now.polygons.now) file.old result }
 {
-    let np = polygons.len() / nvp;
-    let n = count_facets(nvp, np, polygons);
+    let np = mesh.polygons.len() / mesh.nvp;
+    let n = count_facets(mesh, np);
     if file.len() < FRONT_BYTES + n * FACET_BYTES {
         return Err(StlRefusal::ShortFile);
     }
     put_header(file, n as u32);
-    put_facets(file, FRONT_BYTES, size, height, nvp, np, vertices, polygons);
+    put_facets(file, FRONT_BYTES, lengths, mesh, np);
     Ok(n as u64)
 }
 
 // 70 and 71, of a sound mesh.
-fn write_sound(
-    nvp: usize,
-    inches: bool,
-    size: f32,
-    height: f32,
-    vertices: &[u16],
-    polygons: &[u16],
-    file: &mut [u8],
-) -> Result<u64, StlRefusal>
-    requires { MeshSound nvp vertices.now polygons.now }
-    ensures answer { result ≡ cond (is_scale (scale_in inches size height))
-        (room_reply (count_of nvp polygons.now) (length file.old)) (Err BadScale) }
-    ensures bytes { file.new ≡ (let s = scale_in inches size height in
-        stl_left (file_in (size_of s) (height_of s) nvp vertices.now polygons.now) file.old result) }
+fn write_sound(mesh: &Mesh<'_>, scale: Scale, file: &mut [u8]) -> Result<u64, StlRefusal>
+    requires { MeshSound mesh.now.nvp mesh.now.vertices.now mesh.now.polygons.now }
+    ensures answer { result ≡ cond (is_scale (scale_in scale.inches scale.size scale.height))
+        (room_reply (count_of mesh.now.nvp mesh.now.polygons.now) (length file.old)) (Err BadScale) }
+    ensures bytes { file.new ≡ (let s = scale_in scale.inches scale.size scale.height in
+        stl_left (file_in (size_of s) (height_of s) mesh.now.nvp mesh.now.vertices.now mesh.now.polygons.now) file.old result) }
 {
-    let across = in_millimetres(inches, size);
-    let up = in_millimetres(inches, height);
-    if is_length(across) & is_length(up) {
-        return put_file(nvp, across, up, vertices, polygons, file);
+    let size = in_millimetres(scale.inches, scale.size);
+    let height = in_millimetres(scale.inches, scale.height);
+    if is_length(size) & is_length(height) {
+        return put_file(mesh, Lengths { size, height }, file);
     }
     Err(StlRefusal::BadScale)
 }
@@ -77,5 +64,16 @@ pub fn write_stl(
         (scale_in inches size height) file.old }
 {
     soundness_of(nvp, vertices, polygons, links)?;
-    write_sound(nvp as usize, inches, size, height, vertices, polygons, file)
+    let mesh = Mesh {
+        nvp: nvp as usize,
+        vertices,
+        polygons,
+        links,
+    };
+    let scale = Scale {
+        inches,
+        size,
+        height,
+    };
+    write_sound(&mesh, scale, file)
 }

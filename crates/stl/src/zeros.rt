@@ -24,20 +24,12 @@ fn wrong_at(file: &[u8], i: usize) -> bool
     requires { i < length file.now }
     ensures { result ≡ wrong_at file.now i }
 {
-    if zero_due(i) {
-        return file[i] != 0;
-    }
-    false
+    zero_due(i) && file[i] != 0
 }
 
 // The first byte that is not zero where zero is due.
 pub fn first_wrong(file: &[u8]) -> Option<usize>
     ensures { result ≡ first_wrong file.now }
 {
-    for i in 0..file.len() {
-        if wrong_at(file, i) {
-            return Some(i);
-        }
-    }
-    None
+    (0..file.len()).find(|i| wrong_at(file, *i))
 }

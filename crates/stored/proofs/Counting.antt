@@ -1,49 +1,48 @@
--- The corners of a stored polygon are counted up to its first 65,535: those that were passed and the corners of the rest are the corners of the whole.
--- Assumes nothing.
-use mathlib.Core.Path.{◌≡◌, refl, sym, ◌∙◌, ap}
-use mathlib.Core.List.{List, [], ◌∷◌, ◌++◌, append-nil}
-use mathlib.Core.Logic.{◌≢◌}
-use Prim.Native.Nat.{ℕ, ◌+◌, ◌≤◌, ◌<◌}
-use native.Mathlib.Numerals.{add-one}
+-- The corners of a stored polygon are counted up to its first 65,535: that is the place of the first, or the row's length. Assumes nothing.
+use Rattle.std.specs.Prelude.{Option, Some, None}
+use Rattle.std.specs.Option.{unwrap_or}
+use Rattle.std.specs.List.{position_or_len}
+use mathlib.Core.Path.{◌≡◌, refl, ap, ◌∙◌}
+use mathlib.Core.Bool.{Bool, true, false, cond}
+use mathlib.Core.Logic.{⊎_elim}
+use mathlib.Core.List.{List, [], ◌∷◌}
+use Prim.Native.Nat.{ℕ, suc, ◌+◌, ◌≤◌, ◌<◌}
 use native.Mathlib.Omega.{arith}
-use borrow.Author.Tests.{eq-eqb, ne_eqb}
-use lib.ListN.{length, take, drop, get_or, drop_of_length-le}
-use lib.Seq.{drop-cons, append_snoc, length-take-le}
-use Rattle.mem.specs.Slice.{take_snoc}
+use lib.Dec.{eqb, ltb}
+use borrow.Author.Tests.{lt-ltb, le-ltb}
+use lib.ListN.{length, take}
 use Rattle.rules.specs.Links.{none}
+use Rattle.mem.specs.Cases.{lt_or_le}
 use Rattle.rules.specs.Exits.{up_to_none}
+use Rattle.laws.proofs.HandedWords.{up_to_few}
 
--- c words were passed
-pub record Counting (row : List ℕ) (c : ℕ) : Type 0 where
-  pub within : c ≤ length row
-  pub same : up_to_none row ≡ take c row ++ up_to_none (drop c row)
+abbrev pub place_of_none : List ℕ → ℕ
+place_of_none row = position_or_len (λ c. eqb c none) row
 
-pub counting_none : (row : List ℕ) → Counting row 0
-counting_none row = record { within = omega arith; same = refl }
+-- what stands in front of it are the corners
+abbrev Until : List ℕ → Type 0
+Until row = (place_of_none row ≡ length (up_to_none row)) × (take (place_of_none row) row ≡ up_to_none row)
 
-module _ {row : List ℕ} {c : ℕ} (r : Counting row c) where
-  rest_more : c < length row → get_or row c 0 ≢ none → up_to_none (drop c row) ≡ get_or row c 0 ∷ up_to_none (drop (c + 1) row)
-  unfolding up_to_none
-  rest_more h e = rw (add-one c) (ap up_to_none (drop-cons row c 0 h) ∙ rw (ne_eqb (get_or row c 0) none e))
+until_more : (c : ℕ) (cs : List ℕ) → Until cs → (b : Bool) → eqb c none ≡ b → Until (c ∷ cs)
+unfolding up_to_none
+until_more c cs r true e = rw e (refl, refl)
+until_more c cs r false e =
+    let one : 1 + place_of_none cs ≡ suc (place_of_none cs) = omega arith in
+    rw (e, one) (ap suc r.0, ap (λ (l : List ℕ). c ∷ l) r.1)
 
-  pub counting_more : c < length row → get_or row c 0 ≢ none → Counting row (c + 1)
-  counting_more h e = record {
-    within = omega arith;
-    same = r.same ∙ rw (rest_more h e, take_snoc row c 0 h) (sym (append_snoc (take c row) (get_or row c 0) (up_to_none (drop (c + 1) row))));
-  }
+corners_until : (row : List ℕ) → Until row
+unfolding up_to_none
+corners_until [] = (refl, refl)
+corners_until (c ∷ cs) = until_more c cs (corners_until cs) (eqb c none) refl
 
-  counted : up_to_none (drop c row) ≡ [] → (c ≡ length (up_to_none row)) × (take c row ≡ up_to_none row)
-  counted e =
-      let p : take c row ≡ up_to_none row = sym (r.same ∙ rw e (append-nil (take c row))) in
-      (sym (length-take-le c row r.within) ∙ ap length p, p)
-
-  -- a 65,535 ends them, or the row does
-  pub counted_there : c < length row → get_or row c 0 ≡ none → (c ≡ length (up_to_none row)) × (take c row ≡ up_to_none row)
-  unfolding up_to_none
-  counted_there h e = counted (ap up_to_none (drop-cons row c 0 h) ∙ rw (eq-eqb (get_or row c 0) none e))
-
-  pub counted_all : length row ≤ c → (length row ≡ length (up_to_none row)) × (take (length row) row ≡ up_to_none row)
-  unfolding up_to_none
-  counted_all h =
-      let e : c ≡ length row = omega (arith, r.within) in
-      rw e at (counted (ap up_to_none (drop_of_length-le row {i = c} h)))
+-- as `position` and `unwrap_or` have it
+pub counted : (row : List ℕ) {o : Option ℕ} {r : ℕ} → o ≡ cond (ltb (place_of_none row) (length row)) (Some (place_of_none row)) None
+    → r ≡ unwrap_or o (length row) → (r ≡ length (up_to_none row)) × (take r row ≡ up_to_none row)
+counted row {o} {r} e f =
+    let u = corners_until row in
+    let here : r ≡ place_of_none row = ⊎_elim
+    (λ (h : place_of_none row < length row). f ∙ rw e (rw (lt-ltb (place_of_none row) (length row) h) refl))
+    (λ (h : length row ≤ place_of_none row). f ∙ rw e (rw (le-ltb (place_of_none row) (length row) h)
+    (let q : length row ≡ place_of_none row = omega (arith, u.0, up_to_few row) in q)))
+    (lt_or_le (place_of_none row) (length row)) in
+    (here ∙ u.0, rw here u.1)

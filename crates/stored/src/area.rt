@@ -16,9 +16,9 @@ fn put_places(vertices: &[u16], corners: &[u16], pts: &mut [u32])
     ensures { pts.new ≡ splice pts.old 0 (packed place_words (places_of vertices.now corners.now)) }
 {
     for c in 0..corners.len() {
-        let v = corners[c] as usize * VERTEX_STRIDE;
-        pts[c * 2] = vertices[v] as u32;
-        pts[c * 2 + 1] = vertices[v + 2] as u32;
+        let v = usize::from(corners[c]) * VERTEX_STRIDE;
+        pts[c * 2] = u32::from(vertices[v]);
+        pts[c * 2 + 1] = u32::from(vertices[v + 2]);
     }
 }
 

@@ -9,10 +9,5 @@ pub const UNUSED: u16 = 65535;
 pub fn count_corners(row: &[u16]) -> usize
     ensures { (result ≡ length (up_to_none row.now)) × (take result row.now ≡ up_to_none row.now) }
 {
-    for c in 0..row.len() {
-        if row[c] == UNUSED {
-            return c;
-        }
-    }
-    row.len()
+    row.iter().position(|c| *c == UNUSED).unwrap_or(row.len())
 }

@@ -10,7 +10,7 @@ pub fn vertex_at(vertices: &[u16], k: u16) -> Vertex
     requires { k * vertex_stride + 2 < length vertices.now }
     ensures { result ≡ vertex_in vertices.now k }
 {
-    let at = k as usize * VERTEX_STRIDE;
+    let at = usize::from(k) * VERTEX_STRIDE;
     Vertex {
         x: vertices[at],
         y: vertices[at + 1],

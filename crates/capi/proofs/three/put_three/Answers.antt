@@ -4,4 +4,4 @@ use Rattle.capi.proofs.Written.{three}
 use Rattle.capi.proofs.three.put_three.Goals as goal
 
 pub returns : goal.returns
-returns c = (refl, three c.args.words.now c.args.number c.args.second c.args.third c.requires)
+returns c = (refl, rw c.from.ensures (three c.args.words.now c.args.number c.args.second c.args.third c.requires))

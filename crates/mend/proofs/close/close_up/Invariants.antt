@@ -1,7 +1,5 @@
 -- `mend::close::close_up` meets its contract: the loop's invariant is `Closing`: those that have moved stand from the place `to` on. The measure is how many
 -- are left. Assumes nothing.
-use Prim.Native.Nat.{◌-◌}
-use lib.ListN.{length}
 use Rattle.mend.proofs.Closing.{Closing}
 use Rattle.mend.proofs.close.close_up.Given as goal
 

@@ -1,7 +1,5 @@
 -- `mend::contours::mend_all` meets its contract: the loop's invariant is `MendingAll`: the contours that are done stand in front, the others are as they
 -- were. The measure is how many are left. Assumes nothing.
-use Prim.Native.Nat.{◌-◌}
-use lib.ListN.{length}
 use Rattle.mend.proofs.MendingAll.{MendingAll}
 use Rattle.mend.proofs.contours.mend_all.Given as goal
 

@@ -3,10 +3,10 @@ use Rattle.mend.proofs.OffEnds.{off_lose, off_left}
 use Rattle.mend.proofs.ends.off.Goals as goal
 
 pub lose-requires : goal.lose-requires
-lose-requires c =
+lose-requires g c =
     off_lose c.requires c.link_at-p.ensures c.link_at-q.ensures
 
 pub returns : goal.returns
-returns c =
+returns g c =
     off_left c.args.stack.now c.args.kept c.args.gone c.args.lo c.link_at-p.ensures
     c.link_at-q.ensures c.lose.ensures

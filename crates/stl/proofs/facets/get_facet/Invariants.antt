@@ -1,5 +1,5 @@
 -- `stl::facets::get_facet` meets its contract: the loop fills word after word with the patterns of the facet. Assumes nothing.
-use Prim.Native.Nat.{◌+◌, ◌-◌, ◌*◌}
+use Prim.Native.Nat.{◌+◌, ◌*◌}
 use Rattle.mem.specs.Slice.{view}
 use Rattle.mem.specs.Tab.{Filled}
 use Rattle.rules.specs.Stl.{from_little}

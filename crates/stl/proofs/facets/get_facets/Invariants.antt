@@ -1,5 +1,4 @@
 -- `stl::facets::get_facets` meets its contract. The loop's invariant is `Reads`: the facets so far are in their words. Assumes nothing.
-use Prim.Native.Nat.{◌-◌}
 use Rattle.laws.proofs.StlWords.{Reads}
 use Rattle.stl.proofs.facets.get_facets.Given as goal
 

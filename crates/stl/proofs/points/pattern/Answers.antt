@@ -5,8 +5,8 @@ use Rattle.laws.proofs.StlFloats.{product_is_no_nan}
 use Rattle.stl.proofs.points.pattern.Goals as goal
 
 pub float_to_bits-result : goal.float_to_bits-result
-float_to_bits-result c = product_is_no_nan c.args.n c.args.mm c.requires
+float_to_bits-result c = rw c.from.ensures (product_is_no_nan c.args.n c.args.mm c.requires)
 
 pub returns : goal.returns
 unfolding coordinate
-returns c = refl
+returns c = rw c.from.ensures refl

@@ -15,5 +15,5 @@ put_point-requires-3 c = let p = c.requires in record { t = p.t; t_2 = p.t_2; at
 pub returns : goal.returns
 returns c =
     let a = c.args in
-    facet_written a.size a.height a.a a.b a.c a.out.now a.at c.put_zeros.ensures c.put_point.ensures c.put_point-2.ensures
+    facet_written a.lengths.size a.lengths.height a.a a.b a.c a.out.now a.at c.put_zeros.ensures c.put_point.ensures c.put_point-2.ensures
     c.put_point-3.ensures c.put_zeros-2.ensures

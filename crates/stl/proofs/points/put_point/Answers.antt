@@ -7,5 +7,5 @@ pub returns : goal.returns
 unfolding point_of
 returns c =
     let a = c.args in
-    point_written a.out.now a.at (coordinate a.size a.v.x) (coordinate a.height a.v.y) (coordinate a.size a.v.z)
+    point_written a.out.now a.at (coordinate a.lengths.size a.v.x) (coordinate a.lengths.height a.v.y) (coordinate a.lengths.size a.v.z)
     c.put_f32.ensures c.put_f32-2.ensures c.put_f32-3.ensures

@@ -5,10 +5,10 @@ use Rattle.stl.proofs.write.write_sound.Goals as goal
 pub put_file-requires : goal.put_file-requires
 put_file-requires c =
     let measured : let a = c.args in
-    let across = c.in_millimetres-across.result in
-    Measured a.inches a.size a.height across c.in_millimetres-up.result c.is_length.result c.is_length-2.result = record {
-      across_is = c.in_millimetres-across.ensures;
-      up_is = c.in_millimetres-up.ensures;
+    let across = c.in_millimetres-size.result in
+    Measured a.scale.inches a.scale.size a.scale.height across c.in_millimetres-height.result c.is_length.result c.is_length-2.result = record {
+      across_is = c.in_millimetres-size.ensures;
+      up_is = c.in_millimetres-height.ensures;
       a_is = c.is_length.ensures;
       b_is = c.is_length-2.ensures;
     } in
@@ -17,10 +17,10 @@ put_file-requires c =
 pub returns-then-is_length : goal.returns-then-is_length
 returns-then-is_length c =
     let measured : let a = c.args in
-    let across = c.in_millimetres-across.result in
-    Measured a.inches a.size a.height across c.in_millimetres-up.result c.is_length.result c.is_length-2.result = record {
-      across_is = c.in_millimetres-across.ensures;
-      up_is = c.in_millimetres-up.ensures;
+    let across = c.in_millimetres-size.result in
+    Measured a.scale.inches a.scale.size a.scale.height across c.in_millimetres-height.result c.is_length.result c.is_length-2.result = record {
+      across_is = c.in_millimetres-size.ensures;
+      up_is = c.in_millimetres-height.ensures;
       a_is = c.is_length.ensures;
       b_is = c.is_length-2.ensures;
     } in
@@ -30,10 +30,10 @@ returns-then-is_length c =
 pub returns : goal.returns
 returns c =
     let measured : let a = c.args in
-    let across = c.in_millimetres-across.result in
-    Measured a.inches a.size a.height across c.in_millimetres-up.result c.is_length.result c.is_length-2.result = record {
-      across_is = c.in_millimetres-across.ensures;
-      up_is = c.in_millimetres-up.ensures;
+    let across = c.in_millimetres-size.result in
+    Measured a.scale.inches a.scale.size a.scale.height across c.in_millimetres-height.result c.is_length.result c.is_length-2.result = record {
+      across_is = c.in_millimetres-size.ensures;
+      up_is = c.in_millimetres-height.ensures;
       a_is = c.is_length.ensures;
       b_is = c.is_length-2.ensures;
     } in

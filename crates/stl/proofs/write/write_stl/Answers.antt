@@ -1,6 +1,5 @@
 -- `stl::write::write_stl` meets its contract: a sound mesh goes on to 70 and 71, and a fault is the refusal. Assumes nothing.
-use mathlib.Core.Path.{◌∙◌, ap}
-use Rattle.rules.specs.StlCall.{stl_left}
+use mathlib.Core.Path.{◌∙◌}
 use Rattle.checker.proofs.Verdicts.{passed_on}
 use Rattle.stl.specs.Steps.{scale_in}
 use Rattle.stl.proofs.Writing.{mesh_sound, sound_written, broken_refused}

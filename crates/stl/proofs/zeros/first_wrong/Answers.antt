@@ -1,16 +1,18 @@
-use Rattle.stl.proofs.Searching.{search_begin, search_found, search_next, search_end}
+-- `stl::zeros::first_wrong` meets its contract: what `find` gives is the first byte that is wrong. Assumes nothing.
+use mathlib.Core.Path.{◌≡◌}
+use mathlib.Core.Bool.{true, false}
+use lib.ListN.{length}
+use borrow.Author.Rules.{rules}
+use borrow.Author.Tests.{tests}
+use Rattle.std.proofs.lemmas.Iterator.{first_from_Range}
+use Rattle.rules.specs.Stl.{wrong_at, first_wrong}
+use Rattle.checker.proofs.Looking.{first_is}
 use Rattle.stl.proofs.zeros.first_wrong.Goals as goal
 
-pub loop-i-init : goal.loop-i-init
-loop-i-init c = search_begin _
-
-pub returns-then-wrong_at : goal.returns-then-wrong_at
-returns-then-wrong_at c =
-    search_found (c.args.file.now) c.loop-i.invariant c.wrong_at.ensures c.loop-i-test.true c.if-wrong_at.true
-
-pub loop-i-preserved : goal.loop-i-preserved
-loop-i-preserved c =
-    search_next (c.args.file.now) c.loop-i.invariant c.wrong_at.ensures c.loop-i-test.true c.if-wrong_at.false
-
 pub returns : goal.returns
-returns c = search_end (c.args.file.now) c.loop-i.invariant c.loop-i-test.false
+unfolding first_wrong
+returns c =
+    let bs = c.args.file.now in
+    first_is (wrong_at bs) (length bs) c.find.result
+    (first_from_Range _ _ _ c.find.result (λ i. wrong_at bs i ≡ true) (λ i. wrong_at bs i ≡ false)
+    c.find.ensures.ran (λ x q k. search (rules, tests)) (λ x q k. search (rules, tests)))

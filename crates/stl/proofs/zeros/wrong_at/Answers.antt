@@ -7,6 +7,6 @@ pub returns-then-zero_due : goal.returns-then-zero_due
 returns-then-zero_due c =
     wrong_due c.args.file.now c.args.i (sym c.zero_due.ensures ∙ c.if-zero_due.true)
 
-pub returns : goal.returns
-returns c =
-    wrong_free c.args.file.now c.args.i (sym c.zero_due.ensures ∙ c.if-zero_due.false)
+pub returns-else-zero_due : goal.returns-else-zero_due
+returns-else-zero_due c =
+    c.if-zero_due.false ∙ wrong_free c.args.file.now c.args.i (sym c.zero_due.ensures ∙ c.if-zero_due.false)

@@ -5,4 +5,4 @@ use Rattle.stored.proofs.vertices.vertex_at.Goals as goal
 
 pub returns : goal.returns
 unfolding vertex_in
-returns c = refl
+returns c = rw c.from-at.ensures refl
