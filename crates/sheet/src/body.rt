@@ -23,7 +23,7 @@ const FIRST_LINE: u64 = 5;
 
 // How far the reading is: the line and the place that come next, the vertices that the last contour still needs, and how
 // many contours and vertices there are.
-#[derive(Clone, Copy)]
+#[derive(Clone, Copy, Debug, PartialEq, Eq)]
 pub struct Progress {
     pub line: u64,
     pub at: usize,

@@ -8,7 +8,7 @@ use crate::lists::Lists;
 use crate::refusal::SheetRefusal;
 
 // A sheet that was read: its heading, and how many contours and vertices stand in the lists.
-#[derive(Clone, Copy)]
+#[derive(Clone, Copy, Debug, PartialEq, Eq)]
 pub struct JobSheet {
     pub heading: Heading,
     pub contours: usize,
