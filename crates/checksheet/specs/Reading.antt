@@ -87,7 +87,7 @@ pub record PlacesRead (text : List ℕ) (from k : ℕ) (r : Result Progress Shee
 -- ---- a polygon
 
 -- at most n numbers, each up to `most`, can be stored at `at`
-pub record RowReady (most : ℕ) (row : List ℕ) (at n : ℕ) (values : List ℕ) : Type 0 where
+pub record RowReady {A : Type 0} (most : ℕ) (row : List A) (at n : ℕ) (values : List ℕ) : Type 0 where
   pub room : at + n ≤ length row
   pub few : length values ≤ n
   pub small : (i : ℕ) → i < length values → get_or values i 0 ≤ most

@@ -13,7 +13,7 @@ const COUNT_MOST: u64 = 8192;
 const TOTAL_MOST: u64 = 9223372036854775807;
 
 // What a mesh line says: how many vertices and polygons there are, and the claimed total.
-#[derive(Clone, Copy)]
+#[derive(Clone, Copy, Debug, PartialEq, Eq)]
 pub struct MeshLine {
     pub places: usize,
     pub polygons: usize,

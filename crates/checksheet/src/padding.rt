@@ -1,5 +1,6 @@
 // Numbers stored, and 65,535 behind them.
-ghost use Rattle.std.specs.Prelude.{◌≡◌};
+ghost use Rattle.std.specs.Prelude.{◌≡◌, ◌≤◌, ℕ, map};
+ghost use Rattle.std.proofs.Common.{rules};
 ghost use Rattle.mem.specs.Slice.{splice};
 ghost use Rattle.rules.specs.Exits.{padded};
 ghost use Rattle.checksheet.specs.Reading.{RowReady};
@@ -7,30 +8,54 @@ ghost use Rattle.checksheet.specs.Reading.{RowReady};
 use words::fill::fill;
 
 // What stands where there is no corner, and no link.
-const NONE: u16 = 65535;
+const NONE: u64 = 65535;
 
-// The n words from `at` on become these numbers, of 16 bits each, and none behind them.
-pub fn put_row16(row: &mut [u16], at: usize, n: usize, values: &[u64])
-    requires { RowReady 65535 row.old at n values.now }
-    ensures { row.new ≡ splice row.old at (padded n values.now) }
-{
-    let mut i = 0;
-    while i < values.len() {
-        row[at + i] = values[i] as u16;
-        i += 1;
-    }
-    fill(row, at + i, n - i, NONE);
+// A word in which numbers are stored.
+pub trait Word: Copy {
+    // The word of a number, and the most that has one.
+    ghost word: { ℕ → Self };
+
+    ghost most: { ℕ };
+
+    fn stored(n: u64) -> Self
+        requires { n ≤ most }
+        ensures { result ≡ word n };
+
+    // 65,535 has one.
+    ghost has_none: { 65535 ≤ most };
 }
 
-// The same of numbers of 32 bits.
-pub fn put_row32(row: &mut [u32], at: usize, n: usize, values: &[u64])
-    requires { RowReady 4294967295 row.old at n values.now }
-    ensures { row.new ≡ splice row.old at (padded n values.now) }
-{
-    let mut i = 0;
-    while i < values.len() {
-        row[at + i] = values[i] as u32;
-        i += 1;
+impl Word for u16 {
+    ghost word = { λ n. n };
+
+    ghost most = { 65535 };
+
+    ghost has_none = { Prim.search rules };
+
+    fn stored(n: u64) -> u16 {
+        n as u16
     }
-    fill(row, at + i, n - i, NONE as u32);
+}
+
+impl Word for u32 {
+    ghost word = { λ n. n };
+
+    ghost most = { 4294967295 };
+
+    ghost has_none = { Prim.search rules };
+
+    fn stored(n: u64) -> u32 {
+        n as u32
+    }
+}
+
+// The n words from `at` on become these numbers, and none behind them.
+pub fn put_row<T: Word>(row: &mut [T], at: usize, n: usize, values: &[u64])
+    requires { RowReady T.most row.old at n values.now }
+    ensures { row.new ≡ splice row.old at (map T.word (padded n values.now)) }
+{
+    for i in 0..values.len() {
+        row[at + i] = T::stored(values[i]);
+    }
+    fill(row, at + values.len(), n - values.len(), T::stored(NONE));
 }

@@ -1,7 +1,7 @@
 // How far the reading is.
 
 // The line and the place that come next.
-#[derive(Clone, Copy)]
+#[derive(Clone, Copy, Debug, PartialEq, Eq)]
 pub struct Progress {
     pub line: u64,
     pub at: usize,

@@ -3,7 +3,7 @@ ghost use Rattle.std.specs.Prelude.{◌≡◌, ◌-◌};
 ghost use Rattle.rules.specs.Lines.{tab_byte, parts};
 ghost use Rattle.checksheet.specs.Reading.{CornersReady, CornersRead, RowAtReady, LinksRead, PolygonRead, PolygonReady};
 
-use crate::padding::{put_row16, put_row32};
+use crate::padding::put_row;
 use crate::progress::Progress;
 use lines::numbers::read_row;
 use lines::scan::find;
@@ -64,7 +64,7 @@ fn link_line(
     let mosts = [LINK_MOST; 12];
     let mut values = [0u64; 12];
     if read_row(&text[from..e], b"n", 0, &mosts[..n], &mut values) {
-        put_row32(links, i * words, words, &values[..n]);
+        put_row(links, i * words, words, &values[..n]);
         return Ok(Progress {
             line: p.line + 1,
             at: e + 1,
@@ -94,7 +94,7 @@ pub fn polygon_lines(
     let n = corner_cells(&text[from..e], words, &mut values).ok_or(SheetRefusal::Malformed(
         p.line,
     ))?;
-    put_row16(polygons, i * words, words, &values[2..n + 2]);
+    put_row(polygons, i * words, words, &values[2..n + 2]);
     let next = Progress {
         line: p.line + 1,
         at: e + 1,

@@ -26,8 +26,8 @@ fn put_others(out: &mut [u8], at: usize, ps: &[u32]) -> usize
     ensures { Printed (packed (λ p. tab_byte ∷ coordinate_text p) ps.now) out.old out.new at result }
 {
     let mut to = at;
-    for i in 0..ps.len() {
-        to = put_next(out, to, ps[i]);
+    for p in ps {
+        to = put_next(out, to, *p);
     }
     to
 }

@@ -1,16 +1,21 @@
 // A file becomes a text.
 ghost use Rattle.std.specs.Prelude.{◌≤◌, ◌≡◌, true, length, take};
 ghost use Rattle.rules.specs.Stl.{facets_read, facets_in, right_length};
+ghost use Rattle.rules.specs.Sheet.{refused_text};
+ghost use Rattle.rules.specs.StlCall.{unstl_refusal_number, unstl_refusal_second};
 ghost use Rattle.rules.specs.StlText.{reading_text, facets_text};
 ghost use Rattle.lines.specs.Print.{Room, Printed};
 
 use crate::rows::put_facet_lines;
 use lines::cells::put_cell;
 use lines::print::put_text;
-use sheet::rows::put_refused;
+use rules::UnstlRefusal;
+use sheet::refusal::SheetRefusal;
+use sheet::rows::{put_refused, put_sheet_refused};
 use stl::bytes::get_u32;
 use stl::facets::right_length;
 use stl::header::COUNT_AT;
+use stl::numbers::{unstl_number, unstl_second};
 use stl::zeros::first_wrong;
 
 // The text of a file that is good: its unit, how many facets it has, and their lines.
@@ -27,6 +32,16 @@ fn put_good(file: &[u8], out: &mut [u8]) -> usize
     put_facet_lines(out, c + 1, file, n)
 }
 
+// The refusal of a file.
+fn put_file_refused(out: &mut [u8], refusal: UnstlRefusal) -> usize
+    requires { Room out.old (refused_text (unstl_refusal_number refusal) (unstl_refusal_second refusal)) 0 }
+    ensures { Printed (refused_text (unstl_refusal_number refusal) (unstl_refusal_second refusal))
+        out.old out.new 0 result }
+{
+    let reply = Err(refusal);
+    put_refused(out, unstl_number(reply), unstl_second(reply))
+}
+
 // What is printed for an STL: its bytes in, and the text at the beginning of `out`. Any bytes may be handed in. The answer is the text's
 // length.
 pub fn facets_text(file: &[u8], out: &mut [u8; 272000]) -> usize
@@ -34,13 +49,13 @@ pub fn facets_text(file: &[u8], out: &mut [u8; 272000]) -> usize
     ensures counted { (result ≤ length out.new) × (result ≡ length (take result out.new)) }
 {
     if file.len() > 65536 {
-        return put_refused(out, 23, 0);
+        return put_sheet_refused(out, SheetRefusal::TooLong);
     }
-    if right_length(file) {
-        return match first_wrong(file) {
-            Some(i) => put_refused(out, 73, i as u64),
-            None => put_good(file, out),
-        };
+    if !right_length(file) {
+        return put_file_refused(out, UnstlRefusal::BadLength);
     }
-    put_refused(out, 72, 0)
+    match first_wrong(file) {
+        Some(i) => put_file_refused(out, UnstlRefusal::NotZero(i as u64)),
+        None => put_good(file, out),
+    }
 }

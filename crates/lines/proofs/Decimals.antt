@@ -1,8 +1,9 @@
 -- The loop over the digits of a cell: the answer of the whole is that of the digits that are left, v being what the others say. A number that has grown above
 -- its limit stays above. Assumes nothing.
 use Rattle.std.specs.Prelude.{Option, Some, None}
-use mathlib.Core.Path.{◌≡◌, refl, ap, ◌∙◌}
-use mathlib.Core.Bool.{true, false, ◌&&◌, not, cond, and-true, and-false, or-true}
+use Rattle.std.specs.Char.{is_ascii_digit}
+use mathlib.Core.Path.{◌≡◌, refl, sym, ap, ◌∙◌}
+use mathlib.Core.Bool.{Bool, true, false, ◌&&◌, not, cond, and-true, and-false, or-true}
 use mathlib.Core.List.{List, [], ◌∷◌}
 use mathlib.Core.Logic.{◌≢◌}
 use Prim.Native.Nat.{ℕ, ◌+◌, ◌-◌, ◌*◌, ◌≤◌, ◌<◌}
@@ -35,17 +36,10 @@ module _ (least most v : ℕ) where
   unfolding rest_in are_digits value_from
   rest_digit c cs e = rw (e, are_digits) refl
 
-is_digit_lem : (c : ℕ) → 48 ≤ c → c ≤ 57 → is_digit c ≡ true
+-- as the code asks for it
+pub as_asked : (c : ℕ) {t : Bool} → t ≡ is_ascii_digit c → is_digit c ≡ t
 unfolding is_digit
-is_digit_lem c a b = rw (le-leb 48 c a, le-leb c 57 b) refl
-
-pub below_digits : (c : ℕ) → c < 48 → is_digit c ≡ false
-unfolding is_digit
-below_digits c h = rw (lt-leb 48 c h) refl
-
-pub above_digits : (c : ℕ) → 57 < c → is_digit c ≡ false
-unfolding is_digit
-above_digits c h = rw (lt-leb c 57 h) (and-false (leb 48 c))
+as_asked c e = sym e
 
 pub record Reading (least most : ℕ) (cell : List ℕ) (v i : ℕ) : Type 0 where
   pub same : decimal_in least most cell ≡ rest_in least most v (drop i cell)
@@ -80,15 +74,15 @@ module _ {least most : ℕ} {cell : List ℕ} {v i : ℕ} (r : Reading least mos
     pub reading_other : is_digit (get_or cell i 0) ≡ false → decimal_in least most cell ≡ None
     reading_other e = r.same ∙ ap (rest_in least most v) (drop_next cell i h) ∙ rest_other least most v (get_or cell i 0) (drop (i + 1) cell) e
 
-    module _ (a : 48 ≤ get_or cell i 0) (b : get_or cell i 0 ≤ 57) where
+    module _ (e : is_digit (get_or cell i 0) ≡ true) where
       turn : decimal_in least most cell ≡ rest_in least most (v * 10 + (get_or cell i 0 - 48)) (drop (i + 1) cell)
-      turn = r.same ∙ ap (rest_in least most v) (drop_next cell i h) ∙ rest_digit least most v (get_or cell i 0) (drop (i + 1) cell) (is_digit_lem (get_or cell i 0) a b)
+      turn = r.same ∙ ap (rest_in least most v) (drop_next cell i h) ∙ rest_digit least most v (get_or cell i 0) (drop (i + 1) cell) e
 
       pub reading_large : most < v * 10 + (get_or cell i 0 - 48) → decimal_in least most cell ≡ None
       reading_large k = turn ∙ rest_large least most (v * 10 + (get_or cell i 0 - 48)) (drop (i + 1) cell) k
 
-      pub reading_next : v * 10 + (get_or cell i 0 - 48) ≤ most → Reading least most cell (v * 10 + (get_or cell i 0 - 48)) (i + 1)
-      reading_next k = record { same = turn; small = k }
+      pub reading_next : {n : ℕ} → n ≡ v * 10 + (get_or cell i 0 - 48) → n ≤ most → Reading least most cell n (i + 1)
+      reading_next q k = rw q record { same = turn; small = omega arith }
 
   module _ (h : length cell ≤ i) where
     done : decimal_in least most cell ≡ rest_in least most v []

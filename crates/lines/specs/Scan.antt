@@ -3,7 +3,7 @@
 -- `parts_cut`: the parts on both sides of such a byte.
 use Rattle.std.specs.Prelude.{◌≡◌, Bool, true, false, List, [], ◌∷◌, ◌++◌, ℕ, suc, ◌+◌, ◌≤◌, ◌<◌, eqb, length, take, drop, get_or}
 use Rattle.std.proofs.Math.Path.{refl}
-use Rattle.std.proofs.Common.{sym, ap, ◌∙◌, add-one, arith, length-drop, drop-drop, get_or-drop, eqb-true, eq-eqb}
+use Rattle.std.proofs.Common.{ap, ◌∙◌, add-one, arith, length-drop, drop-drop, eqb-true, eq-eqb}
 use Rattle.std.proofs.Math.Seq.{split_at}
 use Rattle.mem.specs.Slice.{view}
 use Rattle.rules.specs.Lines.{parts, on_first}
@@ -26,11 +26,11 @@ module _ (b c : ℕ) (cs : List ℕ) where
   unfolding place_of
   place_later e = rw (e, place_of) refl
 
-  parts_here : eqb c b ≡ true → parts b (c ∷ cs) ≡ [] ∷ parts b cs
+  pub parts_here : eqb c b ≡ true → parts b (c ∷ cs) ≡ [] ∷ parts b cs
   unfolding parts
   parts_here e = rw (e, parts) refl
 
-  parts_later : eqb c b ≡ false → parts b (c ∷ cs) ≡ on_first c (parts b cs)
+  pub parts_later : eqb c b ≡ false → parts b (c ∷ cs) ≡ on_first c (parts b cs)
   unfolding parts
   parts_later e = rw (e, parts) refl
 
@@ -94,7 +94,7 @@ parts_both b (c ∷ xs) ys = (elim (eqb c b) as (λ (t : Bool). eqb c b ≡ t �
       ∙ rw (parts_both b xs ys, parts_later b c xs e) (on_append c (parts b xs) (parts b ys) (parts_some b xs))
 ]) refl
 
-place_is : (b : ℕ) (l : List ℕ) → place_of b l < length l → get_or l (place_of b l) 0 ≡ b
+pub place_is : (b : ℕ) (l : List ℕ) → place_of b l < length l → get_or l (place_of b l) 0 ≡ b
 place_is b [] h = absurd (omega arith)
 place_is b (c ∷ cs) h = (elim (eqb c b) as (λ (t : Bool). eqb c b ≡ t → get_or (c ∷ cs) (place_of b (c ∷ cs)) 0 ≡ b) [
   | true ↦ λ e. rw (place_here b c cs e) (eqb-true c b e)
@@ -103,9 +103,6 @@ place_is b (c ∷ cs) h = (elim (eqb c b) as (λ (t : Bool). eqb c b ≡ t → g
       rw q (place_is b cs (omega arith))
 ]) refl
 
-pub parts_cut : (b : ℕ) (text : List ℕ) (p q : ℕ) → q ≡ p + place_of b (drop p text) → q < length text
-    → parts b text ≡ parts b (take q text) ++ parts b (drop (q + 1) text)
-parts_cut b text p q e h =
-    let k : place_of b (drop p text) < length (drop p text) = rw length-drop (omega arith) in
-    let x : get_or text q 0 ≡ b = rw e (sym (get_or-drop p text (place_of b (drop p text)) 0) ∙ place_is b (drop p text) k) in
-    ap (parts b) (split_at text q 0 h) ∙ rw (x, add-one q) (parts_both b (take q text) (drop (suc q) text))
+-- such a byte stands at q
+pub parts_cut : (b : ℕ) (text : List ℕ) (q : ℕ) → q < length text → get_or text q 0 ≡ b → parts b text ≡ parts b (take q text) ++ parts b (drop (q + 1) text)
+parts_cut b text q h x = ap (parts b) (split_at text q 0 h) ∙ rw (x, add-one q) (parts_both b (take q text) (drop (suc q) text))

@@ -6,30 +6,21 @@ ghost use Rattle.rules.specs.Lines.{decimal_in};
 pub fn read_decimal(cell: &[u8], least: u64, most: u64) -> Option<u64>
     ensures { result ≡ decimal_in least most cell.now }
 {
-    if cell.len() == 0 {
+    if cell.is_empty() {
         return None;
     }
-    if cell[0] == b'0' {
-        if cell.len() > 1 {
-            return None;
-        }
+    if cell[0] == b'0' && cell.len() > 1 {
+        return None;
     }
     let mut v = 0u64;
-    for i in 0..cell.len() {
-        if cell[i] < b'0' {
+    for c in cell {
+        if !c.is_ascii_digit() {
             return None;
         }
-        if cell[i] > b'9' {
+        v = v.checked_mul(10)?.checked_add(u64::from(*c - b'0'))?;
+        if v > most {
             return None;
         }
-        let d = (cell[i] - b'0') as u64;
-        if v > most / 10 {
-            return None;
-        }
-        if d > most - v * 10 {
-            return None;
-        }
-        v = v * 10 + d;
     }
     if v < least {
         return None;

@@ -8,14 +8,10 @@ pub fn find(text: &[u8], from: usize, b: u8) -> usize
     requires { from ≤ length text.now }
     ensures { (result ≡ from + place_of b (drop from text.now)) × (result ≤ length text.now) }
 {
-    let mut i = from;
-    while i < text.len() {
-        if text[i] == b {
-            break;
-        }
-        i += 1;
+    match text[from..].iter().position(|c| *c == b) {
+        Some(k) => from + k,
+        None => text.len(),
     }
-    i
 }
 
 // Whether two texts are the same.

@@ -10,26 +10,26 @@ use Rattle.rules.specs.Sheet.{Sheet, Read, read_sheet}
 use Rattle.rules.specs.MendSheet.{mended_sheet, sheet_text, mend_text, lost_lines, lost_text}
 use Rattle.sheet.specs.declared.heading.Heading.{Heading}
 use Rattle.sheet.specs.Parts.{whole_part, whole_numbers}
-use Rattle.sheet.specs.Reading.{with_lists, read_bytes, ListsReady, TakenAs}
+use Rattle.sheet.specs.Reading.{with_lists, read_bytes, TakenAs}
 use Rattle.sheet.specs.Room.{out_most}
 use Rattle.sheet.specs.Texts.{taken_text}
 use Rattle.mendsheet.specs.Print.{lost_text_of}
 use Rattle.mendsheet.specs.Mended.{FromSheet, mended_text, MendReady, losses_of, LossesReady}
 
-module _ {w : Read Sheet} {x : Heading} {c v : ℕ} {ls rs cs ns : List ℕ} (a : TakenAs w x c v ls rs cs ns) (l : ListsReady ls rs cs ns) where
+module _ {w : Read Sheet} {x : Heading} {c v : ℕ} {ls rs cs ns : List ℕ} (a : TakenAs w x c v ls rs cs ns) where
   from_sheet : FromSheet (take c ls) (take (v * job_stride) ns)
   from_sheet =
-      let p = whole_part c ls a.contours l.lengths in
-      let q = whole_numbers v ns a.vertices l.numbers in
+      let p = whole_part c ls a.contours a.room.lengths in
+      let q = whole_numbers v ns a.vertices a.room.numbers in
       record { few = omega (arith, a.contours); declared = omega (arith, a.declared, a.vertices); whole = omega (arith, a.declared) }
 
   pub mend_ready : {out : List ℕ} → length out ≡ out_most → MendReady (take c ls) (take c rs) (take c cs) (take (v * job_stride) ns) out
   mend_ready h =
-      let p = whole_part c ls a.contours l.lengths in
+      let p = whole_part c ls a.contours a.room.lengths in
       record {
         sheet = from_sheet;
-        regions = sym (whole_part c rs a.contours l.regions) ∙ p;
-        codes = sym (whole_part c cs a.contours l.codes) ∙ p;
+        regions = sym (whole_part c rs a.contours a.room.regions) ∙ p;
+        codes = sym (whole_part c cs a.contours a.room.codes) ∙ p;
         room = omega arith;
       }
 

@@ -4,6 +4,7 @@ ghost use Rattle.rules.specs.MendSheet.{mend_text, lost_text};
 ghost use Rattle.lines.specs.Print.{Printed};
 
 use crate::answer::{put_losses, put_mended};
+use sheet::lists::Lists;
 use sheet::read::read_sheet;
 use sheet::rows::put_sheet_refused;
 
@@ -13,20 +14,21 @@ pub fn mend_sheet(text: &[u8], out: &mut [u8; 65536]) -> usize
     ensures printed { Printed (mend_text text.now) out.old out.new 0 result }
     ensures counted { (result ≤ length out.new) × (result ≡ length (take result out.new)) }
 {
-    let mut lengths = [0u32; 32];
-    let mut regions = [0u16; 32];
-    let mut codes = [0u8; 32];
-    let mut numbers = [0u16; 384];
-    match read_sheet(text, &mut lengths, &mut regions, &mut codes, &mut numbers) {
+    let mut lists = Lists::new();
+    match read_sheet(text, &mut lists) {
         Err(refusal) => put_sheet_refused(out, refusal),
-        Ok(sheet) => put_mended(
-            sheet.heading,
-            &mut lengths[..sheet.contours],
-            &regions[..sheet.contours],
-            &codes[..sheet.contours],
-            &mut numbers[..sheet.vertices * 4],
-            out,
-        ),
+        Ok(sheet) => {
+            let mut lengths = lists.lengths;
+            let mut numbers = lists.numbers;
+            put_mended(
+                sheet.heading,
+                &mut lengths[..sheet.contours],
+                &lists.regions[..sheet.contours],
+                &lists.codes[..sheet.contours],
+                &mut numbers[..sheet.vertices * 4],
+                out,
+            )
+        }
     }
 }
 
@@ -35,16 +37,14 @@ pub fn lost_sheet(text: &[u8], out: &mut [u8; 65536]) -> usize
     ensures printed { Printed (lost_text text.now) out.old out.new 0 result }
     ensures counted { (result ≤ length out.new) × (result ≡ length (take result out.new)) }
 {
-    let mut lengths = [0u32; 32];
-    let mut regions = [0u16; 32];
-    let mut codes = [0u8; 32];
-    let mut numbers = [0u16; 384];
-    match read_sheet(text, &mut lengths, &mut regions, &mut codes, &mut numbers) {
+    let mut lists = Lists::new();
+    match read_sheet(text, &mut lists) {
         Err(refusal) => put_sheet_refused(out, refusal),
         Ok(sheet) => {
-            let mut copy = lengths;
+            let mut copy = lists.lengths;
+            let mut numbers = lists.numbers;
             put_losses(
-                &lengths[..sheet.contours],
+                &lists.lengths[..sheet.contours],
                 &mut copy[..sheet.contours],
                 &mut numbers[..sheet.vertices * 4],
                 out,

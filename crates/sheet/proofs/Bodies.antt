@@ -301,6 +301,6 @@ module _ {text : List ℕ} {from : ℕ} {p : Progress} {ls rs cs ns : List ℕ} 
     going_end d =
         let t = g.standing in
         record {
-          counted = record { contours = t.within.few; vertices = omega (arith, t.within.room); declared = omega (arith, t.declared) };
+          counted = record { room = record { lengths = t.lengths; regions = t.regions; codes = t.codes; numbers = t.numbers }; contours = t.within.few; vertices = omega (arith, t.within.room); declared = omega (arith, t.declared) };
           same = λ s. g.same s ∙ no_lines (so_far s p ls rs cs ns) ∙ all_read p.line (so_far s p ls rs cs ns) (omega arith);
         }

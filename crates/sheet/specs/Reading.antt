@@ -228,19 +228,27 @@ pub record BodyReady (text : List ℕ) (from : ℕ) (ls rs cs ns : List ℕ) : T
   pub codes : length cs ≡ contours_most
   pub numbers : length ns ≡ declared_most * job_stride
 
+-- there is room for 32 contours and 96 vertices
+pub record ListsReady (ls rs cs ns : List ℕ) : Type 0 where
+  pub lengths : length ls ≡ contours_most
+  pub regions : length rs ≡ contours_most
+  pub codes : length cs ≡ contours_most
+  pub numbers : length ns ≡ declared_most * job_stride
+
 -- how many contours and vertices there are at the end, if all was read
-pub record Counted (p : Progress) (ls : List ℕ) : Type 0 where
+pub record Counted (p : Progress) (ls rs cs ns : List ℕ) : Type 0 where
+  pub room : ListsReady ls rs cs ns
   pub contours : p.contours ≤ contours_most
   pub vertices : p.vertices ≤ declared_most
   pub declared : sum_over (λ n. n) (take p.contours ls) ≡ p.vertices
 
-unfoldable pub CountedAs : Result Progress SheetRefusal → List ℕ → Type 0
-CountedAs (Ok p) ls = Counted p ls
-CountedAs (Err e) ls = Unit {0}
+unfoldable pub CountedAs : Result Progress SheetRefusal → List ℕ → List ℕ → List ℕ → List ℕ → Type 0
+CountedAs (Ok p) ls rs cs ns = Counted p ls rs cs ns
+CountedAs (Err e) ls rs cs ns = Unit {0}
 
 -- what stands in the lists at the end is what was read: for any sheet without contours
 pub record BodyRead (text : List ℕ) (from : ℕ) (r : Result Progress SheetRefusal) (ls rs cs ns : List ℕ) : Type 0 where
-  pub counted : CountedAs r ls
+  pub counted : CountedAs r ls rs cs ns
   pub same : (s : Sheet) → read_body (heading_lines + 1) 0 (lines_of (drop from text)) (with_lists s [] [] [] []) ≡ end_as r ls rs cs ns s
 
 -- ---- the whole
@@ -255,15 +263,9 @@ bytes_by read t = elim (ltb bytes_most (length t)) [
 abbrev pub read_bytes : List ℕ → Read Sheet
 read_bytes t = bytes_by read_sheet t
 
--- there is room for 32 contours and 96 vertices
-pub record ListsReady (ls rs cs ns : List ℕ) : Type 0 where
-  pub lengths : length ls ≡ contours_most
-  pub regions : length rs ≡ contours_most
-  pub codes : length cs ≡ contours_most
-  pub numbers : length ns ≡ declared_most * job_stride
-
 -- the whole w was read as far as its end: behind the heading x, c contours and v vertices stand in the lists, and the contours have these vertices
 pub record TakenAs (w : Read Sheet) (x : Heading) (c v : ℕ) (ls rs cs ns : List ℕ) : Type 0 where
+  pub room : ListsReady ls rs cs ns
   pub contours : c ≤ contours_most
   pub vertices : v ≤ declared_most
   pub declared : sum_over (λ n. n) (take c ls) ≡ v

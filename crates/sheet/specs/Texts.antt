@@ -1,7 +1,7 @@
 -- What the bytes of a sheet come to, for each way that the reading ends; and what is printed for them by f, for any f. Assumes nothing.
--- Key: `long_read`, `bad_heading`, `good_heading`, `bad_body`, `good_body`: the reading; `bad_as`, `taken_as`: its answer; `text_read`,
+-- Key: `long_read`, `bad_heading`, `good_heading`, `bad_body`, `good_body`: the reading; `bad_as`, `taken_as`, `counted_as`: its answer; `text_read`,
 -- `bad_text`, `taken_text`: what is printed, for any reader.
-use Rattle.std.specs.Prelude.{◌≡◌, Bool, List, ℕ, ◌+◌, ◌≤◌, ◌<◌, ltb, length, take, Result, Ok, Err}
+use Rattle.std.specs.Prelude.{◌≡◌, Bool, List, ℕ, ◌+◌, ◌≤◌, ◌<◌, ltb, length, take, Result, Ok, Err, IfOk}
 use Rattle.std.proofs.Math.Path.{refl, ap, subst}
 use Rattle.std.proofs.Common.{sym, ◌∙◌, lt-ltb, le-ltb}
 use Rattle.std.proofs.Math.Bool.{true, false}
@@ -66,9 +66,10 @@ module _ (t ls rs cs ns : List ℕ) where
         → ReadAs (goes_on t (Ok x)) (Ok (record { heading = x; contours = p.contours; vertices = p.vertices })) ls rs cs ns
     unfolding FoundAs end_as so_far CountedAs
     good_body {p} q =
-        let k : Counted p ls = subst (λ (a : Result Progress SheetRefusal). CountedAs a ls) q b.counted in
+        let k : Counted p ls rs cs ns = subst (λ (a : Result Progress SheetRefusal). CountedAs a ls rs cs ns) q b.counted in
         let f : TakenAs (goes_on t (Ok x)) x p.contours p.vertices ls rs cs ns =
         record {
+          room = k.room;
           contours = k.contours;
           vertices = k.vertices;
           declared = k.declared;
@@ -110,6 +111,12 @@ module _ {w : Read Sheet} {r : Result JobSheet SheetRefusal} {ls rs cs ns : List
   pub taken_as : {s : JobSheet} → r ≡ Ok s → TakenAs w s.heading s.contours s.vertices ls rs cs ns
   unfolding FoundAs
   taken_as e = subst (λ (q : Result JobSheet SheetRefusal). FoundAs w q ls rs cs ns) e a.found
+
+-- what was read keeps within the lists
+pub counted_as : {w : Read Sheet} (r : Result JobSheet SheetRefusal) {ls rs cs ns : List ℕ} → ReadAs w r ls rs cs ns
+    → IfOk r (λ s. (s.contours ≤ 32) × (s.vertices ≤ 96))
+counted_as (Ok s) a = let t = taken_as a refl in (t.contours, t.vertices)
+counted_as (Err e) a = tt
 
 -- ---- for the functions that users call
 

@@ -2,6 +2,7 @@
 ghost use Rattle.sheet.specs.Reading.{ContourReady, ContourRead, VertexReady, VertexRead, LineReady, Stepped, BodyReady, BodyRead};
 
 use crate::heading::NUMBER_MOST;
+use crate::lists::Lists;
 use crate::refusal::SheetRefusal;
 use lines::line::read_line;
 
@@ -22,7 +23,7 @@ const FIRST_LINE: u64 = 5;
 
 // How far the reading is: the line and the place that come next, the vertices that the last contour still needs, and how
 // many contours and vertices there are.
-#[derive(Clone, Copy)]
+#[derive(Clone, Copy, Debug, PartialEq, Eq)]
 pub struct Progress {
     pub line: u64,
     pub at: usize,
@@ -87,34 +88,26 @@ fn vertex_line(text: &[u8], p: Progress, numbers: &mut [u16]) -> Result<Progress
 }
 
 // One line: a contour's, or a vertex's as long as one is due.
-fn one_line(
-    text: &[u8],
-    p: Progress,
-    lengths: &mut [u32],
-    regions: &mut [u16],
-    codes: &mut [u8],
-    numbers: &mut [u16],
-) -> Result<Progress, SheetRefusal>
-    requires { LineReady text.now p lengths.old regions.old codes.old numbers.old }
-    ensures { Stepped text.now p result lengths.old regions.old codes.old numbers.old lengths.new regions.new codes.new numbers.new }
+fn one_line(text: &[u8], p: Progress, lists: &mut Lists) -> Result<Progress, SheetRefusal>
+    requires { LineReady text.now p lists.old.lengths lists.old.regions lists.old.codes lists.old.numbers }
+    ensures { Stepped text.now p result lists.old.lengths lists.old.regions lists.old.codes lists.old.numbers lists.new.lengths lists.new.regions lists.new.codes lists.new.numbers }
 {
     if p.due == 0 {
-        return contour_line(text, p, lengths, regions, codes);
+        return contour_line(
+            text,
+            p,
+            &mut lists.lengths,
+            &mut lists.regions,
+            &mut lists.codes,
+        );
     }
-    vertex_line(text, p, numbers)
+    vertex_line(text, p, &mut lists.numbers)
 }
 
 // All lines from `from` on, up to the first bad one.
-pub fn read_body(
-    text: &[u8],
-    from: usize,
-    lengths: &mut [u32],
-    regions: &mut [u16],
-    codes: &mut [u8],
-    numbers: &mut [u16],
-) -> Result<Progress, SheetRefusal>
-    requires { BodyReady text.now from lengths.old regions.old codes.old numbers.old }
-    ensures { BodyRead text.now from result lengths.new regions.new codes.new numbers.new }
+pub fn read_body(text: &[u8], from: usize, lists: &mut Lists) -> Result<Progress, SheetRefusal>
+    requires { BodyReady text.now from lists.old.lengths lists.old.regions lists.old.codes lists.old.numbers }
+    ensures { BodyRead text.now from result lists.new.lengths lists.new.regions lists.new.codes lists.new.numbers }
 {
     let mut p = Progress {
         line: FIRST_LINE,
@@ -124,7 +117,7 @@ pub fn read_body(
         vertices: 0,
     };
     while p.at < text.len() {
-        p = one_line(text, p, lengths, regions, codes, numbers)?;
+        p = one_line(text, p, lists)?;
     }
     if p.due > 0 {
         return Err(SheetRefusal::Malformed(p.line));

@@ -15,7 +15,7 @@ pub const NUMBER_MOST: u64 = 65535;
 const CELL_MOST: u64 = 16777216;
 
 // What the heading says, and the place behind it.
-#[derive(Clone, Copy)]
+#[derive(Clone, Copy, Debug, PartialEq, Eq)]
 pub struct Heading {
     pub inches: bool,
     pub size: u32,

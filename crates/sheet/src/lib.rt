@@ -5,6 +5,7 @@
 pub mod refusal; // why a sheet is refused
 pub mod header; // the header of the mesh
 pub mod heading; // the heading lines are read
+pub mod lists; // what is read of the contours
 mod body; // the contours and their vertices are read
 pub mod read; // a sheet is read, from its first byte to its last contour
 pub mod rows; // the lines of a mesh are printed

@@ -4,6 +4,7 @@ ghost use Rattle.rules.specs.Sheet.{text_of};
 ghost use Rattle.lines.specs.Print.{Printed};
 
 use crate::answer::answer_job;
+use crate::lists::Lists;
 use crate::read::read_sheet;
 use crate::rows::put_sheet_refused;
 
@@ -13,18 +14,15 @@ pub fn mesh_sheet(text: &[u8], out: &mut [u8; 65536]) -> usize
     ensures printed { Printed (text_of text.now) out.old out.new 0 result }
     ensures counted { (result ≤ length out.new) × (result ≡ length (take result out.new)) }
 {
-    let mut lengths = [0u32; 32];
-    let mut regions = [0u16; 32];
-    let mut codes = [0u8; 32];
-    let mut numbers = [0u16; 384];
-    match read_sheet(text, &mut lengths, &mut regions, &mut codes, &mut numbers) {
+    let mut lists = Lists::new();
+    match read_sheet(text, &mut lists) {
         Err(refusal) => put_sheet_refused(out, refusal),
         Ok(sheet) => answer_job(
             sheet.heading,
-            &lengths[..sheet.contours],
-            &regions[..sheet.contours],
-            &codes[..sheet.contours],
-            &numbers[..sheet.vertices * 4],
+            &lists.lengths[..sheet.contours],
+            &lists.regions[..sheet.contours],
+            &lists.codes[..sheet.contours],
+            &lists.numbers[..sheet.vertices * 4],
             out,
         ),
     }

@@ -1,7 +1,7 @@
 // Standard input and files are read whole, up to the room that there is.
 #![tactic(auto)]
 
-ghost use Rattle.std.specs.Prelude.{◌≡◌, ◌<◌, IfOk, length, take};
+ghost use Rattle.std.specs.Prelude.{◌≡◌, ◌<◌, ◌≤◌, IfOk, length, take};
 ghost use Rattle.std.specs.Io.KnownBytes.{Consumes, IsAtEnd};
 ghost use Rattle.std.specs.Io.{ReadsAtMost};
 
@@ -31,12 +31,13 @@ pub fn answer_input<F: FnOnce(&[u8], &mut [u8; 65536]) -> usize>(
     rt: &HostRuntime,
     answer: F,
 ) -> Result<()>
-    requires { F.IsAlwaysCallable answer }
+    requires callable { F.IsAlwaysCallable answer }
+    requires within { (text : _) (room : _) (n : _) (left : _) → F.post answer text room n left → n ≤ length left.now }
 {
     // One byte more than a text may have, so that too many show.
     let mut input = [0u8; 65537];
     let n = read_full(&mut rt.stdin(), &mut input).context("standard input")?;
     let mut out = [0u8; 65536];
     let m = answer(&input[..n], &mut out);
-    rt.write_all(&out[..m.min(65536)]).context("standard output")
+    rt.write_all(&out[..m]).context("standard output")
 }

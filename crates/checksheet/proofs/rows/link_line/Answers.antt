@@ -4,10 +4,11 @@ use Prim.Native.Nat.{ℕ, ◌-◌, ◌≤◌}
 use native.Mathlib.Omega.{arith}
 use lib.ListN.{length, replicate}
 use lib.Seq.{length-take-le}
-use Rattle.mem.specs.Slice.{view}
+use Rattle.mem.specs.Slice.{view, splice}
 use Rattle.rules.specs.Lines.{ascii, tab_byte, parts}
 use Rattle.rules.specs.Sheet.{n_name}
 use Rattle.checksheet.proofs.RowLines.{LinksGood, links_good, links_none, links_ready, links_open, links_missed, links_put}
+use Rattle.checksheet.proofs.Padded.{map_same}
 use Rattle.checksheet.proofs.rows.link_line.Goals as goal
 
 pub returns-then-e-text : goal.returns-then-e-text
@@ -19,17 +20,17 @@ read_row-requires c =
     let e = length-take-le {A = ℕ} c.args.n (replicate 12 4294967295) (few) in
     omega (arith, few)
 
-pub slice_bounds-put_row32-end : goal.slice_bounds-put_row32-end
+pub slice_bounds-put_row-end : goal.slice_bounds-put_row-end
 unfolding n_name ascii
-slice_bounds-put_row32-end c =
+slice_bounds-put_row-end c =
     let few : c.args.n ≤ 12 = omega (arith, c.requires.corners, c.requires.few) in
     let good_line : LinksGood c.args.n (parts tab_byte (view c.args.text.now c.args.p.at (c.find-e.result - c.args.p.at)))
     c.read_row.new.values = links_good c.args.n _ (few) c.read_row.ensures c.if-read_row.true in
     let g = good_line in sym (ap length g.first ∙ g.long)
 
-pub put_row32-requires : goal.put_row32-requires
+pub put_row-requires : goal.put_row-requires
 unfolding n_name ascii
-put_row32-requires c =
+put_row-requires c =
     let few : c.args.n ≤ 12 = omega (arith, c.requires.corners, c.requires.few) in
     let good_line : LinksGood c.args.n (parts tab_byte (view c.args.text.now c.args.p.at (c.find-e.result - c.args.p.at)))
     c.read_row.new.values = links_good c.args.n _ (few) c.read_row.ensures c.if-read_row.true in
@@ -41,7 +42,7 @@ returns-then-read_row c =
     let few : c.args.n ≤ 12 = omega (arith, c.requires.corners, c.requires.few) in
     let good_line : LinksGood c.args.n (parts tab_byte (view c.args.text.now c.args.p.at (c.find-e.result - c.args.p.at)))
     c.read_row.new.values = links_good c.args.n _ (few) c.read_row.ensures c.if-read_row.true in
-    links_put c.requires c.find-e.ensures.0 c.if-e-text.false (good_line) c.put_row32.ensures
+    links_put c.requires c.find-e.ensures.0 c.if-e-text.false (good_line) (c.put_row.ensures ∙ ap (splice _ _) (map_same _))
 
 pub returns : goal.returns
 unfolding n_name ascii

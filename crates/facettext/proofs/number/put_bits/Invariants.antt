@@ -1,5 +1,4 @@
 -- `facettext::number::put_bits` meets its contract: the mark, and then the loop prints the digits, the highest first. Assumes nothing.
-use Prim.Native.Nat.{◌-◌}
 use Rattle.facettext.proofs.Bits.{Bits}
 use Rattle.facettext.proofs.number.put_bits.Given as goal
 

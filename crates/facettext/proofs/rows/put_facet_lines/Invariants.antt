@@ -1,5 +1,4 @@
 -- `facettext::rows::put_facet_lines` meets its contract: the loop prints the lines one behind the other. Assumes nothing.
-use Prim.Native.Nat.{◌-◌}
 use Rattle.rules.specs.Stl.{facets_in}
 use Rattle.rules.specs.StlText.{facet_lines}
 use Rattle.lines.specs.Pieces.{Pieces}

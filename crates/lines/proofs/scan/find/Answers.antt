@@ -1,15 +1,28 @@
-use borrow.Author.Rules.{rules}
-use Rattle.lines.proofs.Scanning.{seek_begin, seek_next, seek_hit, seek_end}
+-- `lines::scan::find` meets its contract: where the search finds nothing, the text ends. Assumes nothing.
+use Rattle.std.specs.Prelude.{◌≡◌, ℕ, ◌-◌, eqb, length, drop, position}
+use Rattle.std.proofs.Common.{◌∙◌, arith, rules, tests, length-drop, take_all}
+use Rattle.std.proofs.lemmas.Iterator.{YieldsList-from_slice}
+use Rattle.std.proofs.lemmas.Iterator.Search.{position_from_yields_List}
+use Rattle.lines.proofs.Scanning.{found_at, found_none}
+use Rattle.lines.proofs.scan.find.Goals.{After-position}
 use Rattle.lines.proofs.scan.find.Goals as goal
 
-pub loop-i-init : goal.loop-i-init
-loop-i-init c = seek_begin c.args.b c.args.text.now c.args.from (search rules)
+-- what the search finds in the bytes from `from` on
+found : (c : After-position) → c.position.result ≡ position (λ (x : ℕ). eqb x c.args.b) (drop c.args.from c.args.text.now)
+found c =
+    let a = c.args in
+    let rest = c.iter.ensures.rest ∙ take_all (length a.text.now - a.from) (drop a.from a.text.now) (omega (arith, length-drop a.from a.text.now)) in
+    position_from_yields_List (λ (x : ℕ). eqb x a.b) _ _ c.position.result c.position.ensures.ran (YieldsList-from_slice _ rest)
+    (λ x b q k. search (rules, tests))
 
-pub loop-i-preserved : goal.loop-i-preserved
-loop-i-preserved c = seek_next c.loop-i.invariant c.loop-i-test.true c.if-text-i.false
+pub returns-in-Some : goal.returns-in-Some
+returns-in-Some c =
+    let a = c.args in
+    let at = found_at a.b (drop a.from a.text.now) (found (goal.at.returns-in-Some c).After-position) c.in-Some.is in
+    omega (arith, length-drop a.from a.text.now)
 
-pub returns-after-loop-i : goal.returns-after-loop-i
-returns-after-loop-i c = seek_end c.loop-i.invariant c.loop-i-test.false
-
-pub returns-then-text-i : goal.returns-then-text-i
-returns-then-text-i c = seek_hit c.loop-i.invariant c.loop-i-test.true c.if-text-i.true
+pub returns-in-None : goal.returns-in-None
+returns-in-None c =
+    let a = c.args in
+    let no = found_none a.b (drop a.from a.text.now) (found (goal.at.returns-in-None c).After-position) c.in-None.is in
+    omega (arith, length-drop a.from a.text.now)

@@ -1,11 +1,12 @@
-use Rattle.lines.proofs.Counting.{counting_begin, counting_next, counting_end}
+-- `lines::tabs::count_cells` meets its contract: a line has one cell more than it has tabs. Assumes nothing.
+use Rattle.std.specs.Prelude.{◌≡◌, ℕ, ◌+◌, eqb, count_by}
+use mathlib.Core.Path.{ap, ◌∙◌}
+use borrow.Author.Rules.{rules}
+use Rattle.rules.specs.Lines.{tab_byte}
+use Rattle.lines.proofs.Counting.{parts_counted}
 use Rattle.lines.proofs.tabs.count_cells.Goals as goal
 
-pub loop-at-init : goal.loop-at-init
-loop-at-init c = counting_begin c.args.line.now c.find-at.ensures.0 c.find-at.ensures.1
-
-pub loop-at-preserved : goal.loop-at-preserved
-loop-at-preserved c = counting_next c.loop-at.invariant c.loop-at-test.true c.find-at-in-loop-at.ensures.0 c.find-at-in-loop-at.ensures.1
-
 pub returns : goal.returns
-returns c = counting_end c.loop-at.invariant c.loop-at-test.false
+returns c =
+    let counted : c.count.result ≡ count_by (λ (x : ℕ). eqb x tab_byte) c.args.line.now = search rules in
+    ap (λ (n : ℕ). n + 1) counted ∙ parts_counted tab_byte c.args.line.now

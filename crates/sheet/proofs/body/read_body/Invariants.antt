@@ -6,7 +6,7 @@ use Rattle.sheet.proofs.Bodies.{Going}
 use Rattle.sheet.proofs.body.read_body.Given as goal
 
 abbrev pub invariant-loop-p : goal.invariant-loop-p
-invariant-loop-p l = Going l.text l.from l.p l.lengths l.regions l.codes l.numbers
+invariant-loop-p l = Going l.text l.from l.p l.lists.lengths l.lists.regions l.lists.codes l.lists.numbers
 
 abbrev pub decreases-loop-p : goal.decreases-loop-p
 decreases-loop-p l = length l.text - l.p.at
