@@ -11,6 +11,7 @@ use crate::shape::mesh_contour;
 use ears::cut::NoEar;
 use records::counts::Counts;
 use records::polygon::POLYGON_SIZE;
+use records::run::Run;
 use weld::contour::weld_contour;
 use weld::find::Tables;
 use words::fill::fill;
@@ -45,7 +46,20 @@ pub fn add_contour(
             let v = weld_contour(work, t, nv, g.scratch, numbers, c.first, c.n, WELD_HEIGHT);
             let at = g.polygons + np * POLYGON_SIZE;
             let to = po + c.n * 3;
-            let p = mesh_contour(work, g.vertices, v, at, g.scratch, to, k, nvp, po, c);
+            let p = mesh_contour(
+                work,
+                Run {
+                    at: g.vertices,
+                    n: v,
+                },
+                at,
+                g.scratch,
+                to,
+                k,
+                nvp,
+                po,
+                c,
+            );
             fill(work, g.scratch, c.n, 0);
             fill(work, po, c.n * 6 - 6, 0);
             Ok(Counts {

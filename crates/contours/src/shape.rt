@@ -10,6 +10,7 @@ ghost use Rattle.contours.specs.Shaping.{ShapeReady, MeshReady, MeshedOver};
 use crate::ground::Contour;
 use polys::merge::merge_polys;
 use records::polygon::{NONE, POLYGON_SIZE, Poly, store_poly};
+use records::run::Run;
 use words::fill::fill;
 
 // The triangle of the vertices i, j and k of a contour, whose n numbers stand at ko.
@@ -81,8 +82,7 @@ pub fn shape_contour(
 // that are left, and where the rows were. The result says how many are left.
 pub fn mesh_contour(
     work: &mut [u32],
-    vo: usize,
-    nv: usize,
+    vertices: Run,
     at: usize,
     ko: usize,
     to: usize,
@@ -91,11 +91,11 @@ pub fn mesh_contour(
     ro: usize,
     c: Contour,
 ) -> usize
-    requires { MeshReady work.old vo nv at ko c.n to k nvp ro }
-    ensures { MeshedOver work.old work.new vo nv at ko c.n to k nvp ro c.region c.code result }
+    requires { MeshReady work.old vertices.at vertices.n at ko c.n to k nvp ro }
+    ensures { MeshedOver work.old work.new vertices.at vertices.n at ko c.n to k nvp ro c.region c.code result }
 {
     shape_contour(work, at, ko, c.n, to, k, c.region, c.code);
-    let r = merge_polys(work, vo, nv, at, k, nvp, ro);
+    let r = merge_polys(work, vertices, Run { at, n: k }, nvp, ro);
     fill(work, at + r * POLYGON_SIZE, (k - r) * POLYGON_SIZE, 0);
     r
 }

@@ -9,19 +9,35 @@ ghost use Rattle.holes.specs.Clear.{ClearReady, TakenTo, ClearedTo};
 
 use records::corner::count_from;
 use records::polygon::{CORNERS_AT, POLYGON_SIZE, swap_remove};
+use records::run::Run;
 use trails::sides::{dropped, is_held};
 
-// Of the np polygons at o, those that hold the vertex go: the last takes such a one's place, and is looked at next. The
+// Of the polygons, those that hold the vertex go: the last takes such a one's place, and is looked at next. The
 // result says how many are left.
-fn take_out(work: &mut [u32], o: usize, np: usize, rem: u32) -> usize
-    requires { ClearReady work.old o np }
-    ensures { TakenTo work.old work.new o np rem result }
+fn take_out(work: &mut [u32], polygons: Run, rem: u32) -> usize
+    requires { ClearReady work.old polygons.at polygons.n }
+    ensures { TakenTo work.old work.new polygons.at polygons.n rem result }
 {
-    let mut m = np;
+    let mut m = polygons.n;
     let mut i = 0;
     while i < m {
-        if is_held(work, o, m, i, rem) {
-            swap_remove(work, o, m, i);
+        if is_held(
+            work,
+            Run {
+                at: polygons.at,
+                n: m,
+            },
+            i,
+            rem,
+        ) {
+            swap_remove(
+                work,
+                Run {
+                    at: polygons.at,
+                    n: m,
+                },
+                i,
+            );
             m -= 1;
             continue;
         }
@@ -52,11 +68,11 @@ fn drop_numbers(work: &mut [u32], o: usize, n: usize, rem: u32)
 }
 
 // Both: the polygons that are left once the vertex has gone, with blank records behind them. The result says how many.
-pub fn clear_polygons(work: &mut [u32], o: usize, np: usize, rem: u32) -> usize
-    requires { ClearReady work.old o np }
-    ensures { ClearedTo work.old work.new o np rem result }
+pub fn clear_polygons(work: &mut [u32], polygons: Run, rem: u32) -> usize
+    requires { ClearReady work.old polygons.at polygons.n }
+    ensures { ClearedTo work.old work.new polygons.at polygons.n rem result }
 {
-    let m = take_out(work, o, np, rem);
-    drop_numbers(work, o, m, rem);
+    let m = take_out(work, polygons, rem);
+    drop_numbers(work, polygons.at, m, rem);
     m
 }

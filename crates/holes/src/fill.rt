@@ -14,17 +14,18 @@ use ears::cut::{NoEar, triangulate};
 use polys::merge::merge_polys;
 use records::point::load_point;
 use records::polygon::{NONE, POLYGON_SIZE, Poly, store_poly};
+use records::run::Run;
 use records::vertex::place_at;
 use words::fill::fill;
 
 // The places of the m points at q go to po, two words each.
-pub fn lay_points(work: &mut [u32], vo: usize, nv: usize, q: usize, m: usize, po: usize)
-    requires { LayReady work.old vo nv q m po }
-    ensures { work.new ≡ splice work.old po (packed place_words (places_of (vertices_at work.old vo nv) (points_at work.old q m))) }
+pub fn lay_points(work: &mut [u32], vertices: Run, q: usize, m: usize, po: usize)
+    requires { LayReady work.old vertices.at vertices.n q m po }
+    ensures { work.new ≡ splice work.old po (packed place_words (places_of (vertices_at work.old vertices.at vertices.n) (points_at work.old q m))) }
 {
     for k in 0..m {
         let c = load_point(work, q, m, k);
-        let p = place_at(work, vo, nv, c.vertex as usize);
+        let p = place_at(work, vertices, c.vertex as usize);
         work[po + k * 2] = p.x as u32;
         work[po + k * 2 + 1] = p.z as u32;
     }
@@ -33,17 +34,16 @@ pub fn lay_points(work: &mut [u32], vo: usize, nv: usize, q: usize, m: usize, po
 // The m points at q are laid out at po and cut.
 pub fn cut_hole(
     work: &mut [u32],
-    vo: usize,
-    nv: usize,
+    vertices: Run,
     q: usize,
     m: usize,
     po: usize,
 ) -> Result<usize, NoEar>
-    requires { CutReady work.old vo nv q m po }
-    ensures answer { result ≡ answer_of (Rules.triangulate (places_of (vertices_at work.old vo nv) (points_at work.old q m))) }
-    ensures words { work.new ≡ splice work.old po (cut_words m (places_of (vertices_at work.old vo nv) (points_at work.old q m)) (Rules.triangulate (places_of (vertices_at work.old vo nv) (points_at work.old q m)))) }
+    requires { CutReady work.old vertices.at vertices.n q m po }
+    ensures answer { result ≡ answer_of (Rules.triangulate (places_of (vertices_at work.old vertices.at vertices.n) (points_at work.old q m))) }
+    ensures words { work.new ≡ splice work.old po (cut_words m (places_of (vertices_at work.old vertices.at vertices.n) (points_at work.old q m)) (Rules.triangulate (places_of (vertices_at work.old vertices.at vertices.n) (points_at work.old q m)))) }
 {
-    lay_points(work, vo, nv, q, m, po);
+    lay_points(work, vertices, q, m, po);
     let e = po + (m * 6 - 6);
     triangulate(&mut work[po..e], m)
 }
@@ -96,8 +96,7 @@ pub fn shape_triangles(work: &mut [u32], at: usize, q: usize, m: usize, to: usiz
 // left. The result says how many are left.
 pub fn mesh_hole(
     work: &mut [u32],
-    vo: usize,
-    nv: usize,
+    vertices: Run,
     at: usize,
     q: usize,
     m: usize,
@@ -106,32 +105,31 @@ pub fn mesh_hole(
     nvp: usize,
     ro: usize,
 ) -> usize
-    requires { MeshReady work.old vo nv at q m to k nvp ro }
-    ensures { MeshedOver work.old work.new vo nv at q m to k nvp ro result }
+    requires { MeshReady work.old vertices.at vertices.n at q m to k nvp ro }
+    ensures { MeshedOver work.old work.new vertices.at vertices.n at q m to k nvp ro result }
 {
     shape_triangles(work, at, q, m, to, k);
-    merge_polys(work, vo, nv, at, k, nvp, ro)
+    merge_polys(work, vertices, Run { at, n: k }, nvp, ro)
 }
 
 // The hole of the m points at q is cut, behind them at po, and its polygons go to `at`, in front of them. The result says how
 // many they are, or that there is no ear to cut.
 pub fn fill_hole(
     work: &mut [u32],
-    vo: usize,
-    nv: usize,
+    vertices: Run,
     at: usize,
     q: usize,
     m: usize,
     po: usize,
     nvp: usize,
 ) -> Option<usize>
-    requires { FillReady work.old vo nv at q m po nvp }
-    ensures answer { result ≡ filled_of (vertices_at work.old vo nv) nvp (points_at work.old q m) (Rules.triangulate (places_of (vertices_at work.old vo nv) (points_at work.old q m))) }
-    ensures words { work.new ≡ filled_in work.old (vertices_at work.old vo nv) nvp at po (points_at work.old q m) (Rules.triangulate (places_of (vertices_at work.old vo nv) (points_at work.old q m))) }
+    requires { FillReady work.old vertices.at vertices.n at q m po nvp }
+    ensures answer { result ≡ filled_of (vertices_at work.old vertices.at vertices.n) nvp (points_at work.old q m) (Rules.triangulate (places_of (vertices_at work.old vertices.at vertices.n) (points_at work.old q m))) }
+    ensures words { work.new ≡ filled_in work.old (vertices_at work.old vertices.at vertices.n) nvp at po (points_at work.old q m) (Rules.triangulate (places_of (vertices_at work.old vertices.at vertices.n) (points_at work.old q m))) }
 {
-    match cut_hole(work, vo, nv, q, m, po) {
+    match cut_hole(work, vertices, q, m, po) {
         Ok(k) => {
-            let n = mesh_hole(work, vo, nv, at, q, m, po + m * 3, k, nvp, po);
+            let n = mesh_hole(work, vertices, at, q, m, po + m * 3, k, nvp, po);
             fill(work, po, m * 6 - 6, 0);
             Some(n)
         }

@@ -8,6 +8,7 @@ ghost use Rattle.holes.specs.Verdict.{Wrote, PushReady, Pushed, few_open, SidesR
 
 use records::point::POINT_SIZE;
 use records::polygon::{Poly, corner, load_at, side_end};
+use records::run::Run;
 use records::side::SIDE_SIZE;
 use trails::sides::{collect_sides, is_held};
 use trails::walk::walk_sides;
@@ -65,15 +66,15 @@ struct Met {
     n: usize,
 }
 
-// The neighbours of the vertex in the np polygons at o are written at q. A polygon that holds the vertex twice ends it.
-fn push_all(work: &mut [u32], o: usize, np: usize, q: usize, rem: u32) -> Met
-    requires { PushReady work.old o np q }
-    ensures { Pushed work.old o np q rem result work.new }
+// The neighbours of the vertex in the polygons are written at q. A polygon that holds the vertex twice ends it.
+fn push_all(work: &mut [u32], polygons: Run, q: usize, rem: u32) -> Met
+    requires { PushReady work.old polygons.at polygons.n q }
+    ensures { Pushed work.old polygons.at polygons.n q rem result work.new }
 {
     let mut k: usize = 0;
-    for i in 0..np {
-        if is_held(work, o, np, i, rem) {
-            let p = load_at(work, o, np, i);
+    for i in 0..polygons.n {
+        if is_held(work, polygons, i, rem) {
+            let p = load_at(work, polygons, i);
             if 1 < holds_in(p, rem) {
                 return Met { once: false, n: k };
             }
@@ -92,11 +93,11 @@ fn met_once(s: &[u32]) -> usize
 
 // Whether each polygon holds the vertex at most once, and at most 2 neighbours of it are met once. The zeros at q are
 // used, and are zeros again.
-fn few_open(work: &mut [u32], o: usize, np: usize, q: usize, rem: u32) -> bool
-    requires { PushReady work.old o np q }
-    ensures { Tested (few_open rem (polygons_at work.old o np)) work.old result work.new }
+fn few_open(work: &mut [u32], polygons: Run, q: usize, rem: u32) -> bool
+    requires { PushReady work.old polygons.at polygons.n q }
+    ensures { Tested (few_open rem (polygons_at work.old polygons.at polygons.n)) work.old result work.new }
 {
-    let met = push_all(work, o, np, q, rem);
+    let met = push_all(work, polygons, q, rem);
     let e = q + met.n;
     let few = met_once(&work[q..e]) <= 2;
     fill(work, q, met.n, 0);
@@ -105,11 +106,11 @@ fn few_open(work: &mut [u32], o: usize, np: usize, q: usize, rem: u32) -> bool
 
 // Whether more than 2 sides stay that don't touch the vertex, and the walk uses them all. The zeros at q are used, and
 // are zeros again.
-fn sides_used(work: &mut [u32], o: usize, np: usize, q: usize, rem: u32) -> bool
-    requires { SidesReady work.old o np q rem }
-    ensures { Tested (sides_used rem (polygons_at work.old o np)) work.old result work.new }
+fn sides_used(work: &mut [u32], polygons: Run, q: usize, rem: u32) -> bool
+    requires { SidesReady work.old polygons.at polygons.n q rem }
+    ensures { Tested (sides_used rem (polygons_at work.old polygons.at polygons.n)) work.old result work.new }
 {
-    let n = collect_sides(work, o, np, q, rem);
+    let n = collect_sides(work, polygons, q, rem);
     if n <= 2 {
         fill(work, q, n * SIDE_SIZE, 0);
         return false;
@@ -120,13 +121,13 @@ fn sides_used(work: &mut [u32], o: usize, np: usize, q: usize, rem: u32) -> bool
     walked.left == 0
 }
 
-// Whether the vertex can go, by the np polygons at o. The zeros from q on are used, and are zeros again.
-pub fn can_remove_vertex(work: &mut [u32], o: usize, np: usize, q: usize, rem: u32) -> bool
-    requires { TestReady work.old o np q }
-    ensures { Tested (can_remove rem (polygons_at work.old o np)) work.old result work.new }
+// Whether the vertex can go, by the polygons. The zeros from q on are used, and are zeros again.
+pub fn can_remove_vertex(work: &mut [u32], polygons: Run, q: usize, rem: u32) -> bool
+    requires { TestReady work.old polygons.at polygons.n q }
+    ensures { Tested (can_remove rem (polygons_at work.old polygons.at polygons.n)) work.old result work.new }
 {
-    if few_open(work, o, np, q, rem) {
-        return sides_used(work, o, np, q, rem);
+    if few_open(work, polygons, q, rem) {
+        return sides_used(work, polygons, q, rem);
     }
     false
 }

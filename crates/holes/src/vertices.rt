@@ -5,6 +5,7 @@ ghost use Rattle.rules.specs.Lists.{without};
 ghost use Rattle.records.specs.Layout.{vertex_size, vertices_at, marks_at, vertex_records};
 ghost use Rattle.holes.specs.Clear.{TidyVertices};
 
+use records::run::Run;
 use records::vertex::VERTEX_SIZE;
 use words::fill::fill;
 use words::moves::move_down;
@@ -19,12 +20,12 @@ fn drop_first(part: &mut [u32])
     fill(part, n, VERTEX_SIZE, 0);
 }
 
-// Of the nv vertices at vo, vertex i goes.
-pub fn remove_record(work: &mut [u32], vo: usize, nv: usize, i: usize)
-    requires { TidyVertices work.old vo nv × (i < nv) }
-    ensures { work.new ≡ splice work.old vo (vertex_records (without (vertices_at work.old vo nv) i) (without (marks_at work.old vo nv) i) ++ replicate vertex_size 0) }
+// Of the vertices, vertex i goes.
+pub fn remove_record(work: &mut [u32], vertices: Run, i: usize)
+    requires { TidyVertices work.old vertices.at vertices.n × (i < vertices.n) }
+    ensures { work.new ≡ splice work.old vertices.at (vertex_records (without (vertices_at work.old vertices.at vertices.n) i) (without (marks_at work.old vertices.at vertices.n) i) ++ replicate vertex_size 0) }
 {
-    let a = vo + i * VERTEX_SIZE;
-    let e = vo + nv * VERTEX_SIZE;
+    let a = vertices.at + i * VERTEX_SIZE;
+    let e = vertices.at + vertices.n * VERTEX_SIZE;
     drop_first(&mut work[a..e]);
 }

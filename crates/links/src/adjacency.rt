@@ -10,17 +10,18 @@ use crate::edges::EdgeTables;
 use crate::sides::{join_sides, record_sides};
 use records::edge::load_edge;
 use records::polygon::{LINK_SIZE, NONE};
+use records::run::Run;
 use words::fill::fill;
 
-// The sides of the np polygons at o are recorded and joined, whatever the tables held. The result says how many records
+// The sides of the polygons are recorded and joined, whatever the tables held. The result says how many records
 // there are.
-fn link_sides(work: &mut [u32], o: usize, np: usize, nv: usize, t: EdgeTables) -> usize
-    requires { Sides work.old o np nv t × Room work.old t nv (corners_in (polygons_at work.old o np)) }
-    ensures { Rewritten work.old work.new t nv 0 (edges_of (polygons_at work.old o np)) (corners_in (polygons_at work.old o np)) result }
+fn link_sides(work: &mut [u32], polygons: Run, nv: usize, t: EdgeTables) -> usize
+    requires { Sides work.old polygons.at polygons.n nv t × Room work.old t nv (corners_in (polygons_at work.old polygons.at polygons.n)) }
+    ensures { Rewritten work.old work.new t nv 0 (edges_of (polygons_at work.old polygons.at polygons.n)) (corners_in (polygons_at work.old polygons.at polygons.n)) result }
 {
     fill(work, t.firsts, nv, 0);
-    let ne = record_sides(work, o, np, nv, t, 0);
-    join_sides(work, o, np, nv, t, ne);
+    let ne = record_sides(work, polygons, nv, t, 0);
+    join_sides(work, polygons, nv, t, ne);
     ne
 }
 
@@ -45,20 +46,13 @@ fn store_links(work: &mut [u32], t: EdgeTables, ne: usize, k: usize, lo: usize)
     set_link(work, lo, e.other, e.at, e.poly);
 }
 
-// R6 for the np polygons at o: their links stand at lo, and the records of their sides in the tables.
-pub fn build_mesh_adjacency(
-    work: &mut [u32],
-    o: usize,
-    np: usize,
-    nv: usize,
-    t: EdgeTables,
-    lo: usize,
-)
-    requires { LinkReady work.old o np nv t lo }
-    ensures { work.new ≡ splice (edged work.old t nv (edges_of (polygons_at work.old o np))) lo (link_records (links_of (polygons_at work.old o np))) }
+// R6 for the polygons: their links stand at lo, and the records of their sides in the tables.
+pub fn build_mesh_adjacency(work: &mut [u32], polygons: Run, nv: usize, t: EdgeTables, lo: usize)
+    requires { LinkReady work.old polygons.at polygons.n nv t lo }
+    ensures { work.new ≡ splice (edged work.old t nv (edges_of (polygons_at work.old polygons.at polygons.n))) lo (link_records (links_of (polygons_at work.old polygons.at polygons.n))) }
 {
-    let ne = link_sides(work, o, np, nv, t);
-    fill(work, lo, np * LINK_SIZE, NONE);
+    let ne = link_sides(work, polygons, nv, t);
+    fill(work, lo, polygons.n * LINK_SIZE, NONE);
     for k in 0..ne {
         store_links(work, t, ne, k, lo);
     }

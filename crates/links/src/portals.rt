@@ -11,13 +11,13 @@ ghost use Rattle.links.specs.Ready.{link_records, LinksInHand, PortalReady, port
 
 use plane::ring::next;
 use records::polygon::{LINK_SIZE, NONE, Poly, corner, load_at, place_of};
+use records::run::Run;
 use rules::{Grid, Point};
 
-// The nv vertices, which stand at vo, and the grid that they lie on.
+// The vertices, and the grid that they lie on.
 #[derive(Clone, Copy)]
 struct Plan {
-    vo: usize,
-    nv: usize,
+    vertices: Run,
     grid: Grid,
 }
 
@@ -43,18 +43,18 @@ pub fn portal_of(w: u16, h: u16, a: Point, b: Point) -> u32
 
 // The link of side j of p if it is open.
 fn side_portal(work: &[u32], g: Plan, p: Poly, j: usize) -> u32
-    requires { Placed work.now g.vo g.nv × All (Below g.nv) (corners_of p) × On p j }
-    ensures { result ≡ portal_of g.grid.w g.grid.h (place_of (vertices_at work.now g.vo g.nv) (side_start (corners_of p) j)) (place_of (vertices_at work.now g.vo g.nv) (side_end (corners_of p) j)) }
+    requires { Placed work.now g.vertices.at g.vertices.n × All (Below g.vertices.n) (corners_of p) × On p j }
+    ensures { result ≡ portal_of g.grid.w g.grid.h (place_of (vertices_at work.now g.vertices.at g.vertices.n) (side_start (corners_of p) j)) (place_of (vertices_at work.now g.vertices.at g.vertices.n) (side_end (corners_of p) j)) }
 {
-    let a = place_of(work, g.vo, g.nv, p, j);
-    let b = place_of(work, g.vo, g.nv, p, next(j, p.n));
+    let a = place_of(work, g.vertices, p, j);
+    let b = place_of(work, g.vertices, p, next(j, p.n));
     portal_of(g.grid.w, g.grid.h, a, b)
 }
 
 // The link of side j of p, whose links stand at `at`: a portal if it is open and on the grid's edge, else what it was.
 fn portal_at(work: &[u32], g: Plan, p: Poly, at: usize, j: usize) -> u32
-    requires { LinksInHand work.now g.vo g.nv p at × On p j }
-    ensures { result ≡ portal_at (vertices_at work.now g.vo g.nv) g.grid.w g.grid.h (corners_of p) (view work.now at p.n) j }
+    requires { LinksInHand work.now g.vertices.at g.vertices.n p at × On p j }
+    ensures { result ≡ portal_at (vertices_at work.now g.vertices.at g.vertices.n) g.grid.w g.grid.h (corners_of p) (view work.now at p.n) j }
 {
     let link = work[at + j];
     if link == NONE {
@@ -65,33 +65,25 @@ fn portal_at(work: &[u32], g: Plan, p: Poly, at: usize, j: usize) -> u32
 
 // The same for each side of p.
 fn mark_polygon(work: &mut [u32], g: Plan, p: Poly, at: usize)
-    requires { LinksInHand work.old g.vo g.nv p at }
-    ensures { work.new ≡ splice work.old at (portals_in (vertices_at work.old g.vo g.nv) g.grid.w g.grid.h (corners_of p) (view work.old at p.n)) }
+    requires { LinksInHand work.old g.vertices.at g.vertices.n p at }
+    ensures { work.new ≡ splice work.old at (portals_in (vertices_at work.old g.vertices.at g.vertices.n) g.grid.w g.grid.h (corners_of p) (view work.old at p.n)) }
 {
     for j in 0..p.n {
         work[at + j] = portal_at(work, g, p, at, j);
     }
 }
 
-// R7 for the np polygons at o, whose links stand at lo, if there is a border.
-pub fn mark_portals(
-    work: &mut [u32],
-    vo: usize,
-    nv: usize,
-    o: usize,
-    np: usize,
-    lo: usize,
-    grid: Grid,
-)
-    requires { PortalReady work.old vo nv o np lo }
-    ensures { work.new ≡ splice work.old lo (link_records (portals_at work.old vo nv o np lo grid.w grid.h grid.border)) }
+// R7 for the polygons, whose links stand at lo, if there is a border.
+pub fn mark_portals(work: &mut [u32], vertices: Run, polygons: Run, lo: usize, grid: Grid)
+    requires { PortalReady work.old vertices.at vertices.n polygons.at polygons.n lo }
+    ensures { work.new ≡ splice work.old lo (link_records (portals_at work.old vertices.at vertices.n polygons.at polygons.n lo grid.w grid.h grid.border)) }
 {
     if grid.border == 0 {
         return;
     }
-    let g = Plan { vo, nv, grid };
-    for i in 0..np {
-        let p = load_at(work, o, np, i);
+    let g = Plan { vertices, grid };
+    for i in 0..polygons.n {
+        let p = load_at(work, polygons, i);
         mark_polygon(work, g, p, lo + i * LINK_SIZE);
     }
 }

@@ -10,6 +10,7 @@ ghost use Rattle.links.specs.Ready.{record_of, join_of, each_of, corners_in, InH
 
 use crate::edges::{EdgeTables, find_free, join_edge, put_edge};
 use records::polygon::{Poly, corner, load_at, side_end};
+use records::run::Run;
 use rules::Edge;
 
 // What is done with a side of a polygon.
@@ -122,47 +123,39 @@ fn take_polygon<S: Step>(
     n
 }
 
-// The same for each of the np polygons at o.
+// The same for each of the polygons.
 fn take_sides<S: Step>(
     work: &mut [u32],
-    o: usize,
-    np: usize,
+    polygons: Run,
     nv: usize,
     t: EdgeTables,
     ne: usize,
 ) -> usize
-    requires { Sides work.old o np nv t × Edged work.old t nv ne × Room work.old t nv (ne + S.added (corners_in (polygons_at work.old o np))) }
-    ensures { Rewritten work.old work.new t nv ne (each (each_of S.made (polygons_at work.old o np)) 0 np (edges_at work.old t.edges ne))
-        (S.added (corners_in (polygons_at work.old o np))) result }
+    requires { Sides work.old polygons.at polygons.n nv t × Edged work.old t nv ne × Room work.old t nv (ne + S.added (corners_in (polygons_at work.old polygons.at polygons.n))) }
+    ensures { Rewritten work.old work.new t nv ne (each (each_of S.made (polygons_at work.old polygons.at polygons.n)) 0 polygons.n (edges_at work.old t.edges ne))
+        (S.added (corners_in (polygons_at work.old polygons.at polygons.n))) result }
 {
     let mut n = ne;
-    for i in 0..np {
-        let p = load_at(work, o, np, i);
+    for i in 0..polygons.n {
+        let p = load_at(work, polygons, i);
         n = take_polygon::<S>(work, t, nv, n, i, p);
     }
     n
 }
 
-// All sides of the np polygons at o that run from a lower to a higher vertex are recorded. The result says how many records
+// All sides of the polygons that run from a lower to a higher vertex are recorded. The result says how many records
 // there are then.
-pub fn record_sides(
-    work: &mut [u32],
-    o: usize,
-    np: usize,
-    nv: usize,
-    t: EdgeTables,
-    ne: usize,
-) -> usize
-    requires { Sides work.old o np nv t × Edged work.old t nv ne × Room work.old t nv (ne + corners_in (polygons_at work.old o np)) }
-    ensures { SidesRecorded work.old work.new o np nv t ne result }
+pub fn record_sides(work: &mut [u32], polygons: Run, nv: usize, t: EdgeTables, ne: usize) -> usize
+    requires { Sides work.old polygons.at polygons.n nv t × Edged work.old t nv ne × Room work.old t nv (ne + corners_in (polygons_at work.old polygons.at polygons.n)) }
+    ensures { SidesRecorded work.old work.new polygons.at polygons.n nv t ne result }
 {
-    take_sides::<Recording>(work, o, np, nv, t, ne)
+    take_sides::<Recording>(work, polygons, nv, t, ne)
 }
 
 // All that run from a higher to a lower vertex are joined.
-pub fn join_sides(work: &mut [u32], o: usize, np: usize, nv: usize, t: EdgeTables, ne: usize)
-    requires { Sides work.old o np nv t × Edged work.old t nv ne }
-    ensures { SidesJoined work.old work.new o np nv t ne }
+pub fn join_sides(work: &mut [u32], polygons: Run, nv: usize, t: EdgeTables, ne: usize)
+    requires { Sides work.old polygons.at polygons.n nv t × Edged work.old t nv ne }
+    ensures { SidesJoined work.old work.new polygons.at polygons.n nv t ne }
 {
-    take_sides::<Joining>(work, o, np, nv, t, ne);
+    take_sides::<Joining>(work, polygons, nv, t, ne);
 }

@@ -77,18 +77,18 @@ buffers vertices polygons neighbours regions codes flags work = record {
 
 -- all of it: the mesh stands in b's work buffer, and there is room in the others
 pub record StoreReady (at : Places) (nvp : ℕ) (b : Lent) : Type 0 where
-  pub vertices : VerticesReady b.work at.vo at.nv b.vertices
-  pub polygons : CornersReady b.work at.o at.np nvp b.polygons
-  pub neighbours : LinksReady b.work at.o at.np at.lo nvp b.neighbours
-  pub regions : RegionsReady b.work at.o at.np b.regions
-  pub codes : CodesReady b.work at.o at.np b.codes
-  pub flags : at.np ≤ length b.flags
+  pub vertices : VerticesReady b.work at.vertices.at at.vertices.n b.vertices
+  pub polygons : CornersReady b.work at.polygons.at at.polygons.n nvp b.polygons
+  pub neighbours : LinksReady b.work at.polygons.at at.polygons.n at.links nvp b.neighbours
+  pub regions : RegionsReady b.work at.polygons.at at.polygons.n b.regions
+  pub codes : CodesReady b.work at.polygons.at at.polygons.n b.codes
+  pub flags : at.polygons.n ≤ length b.flags
 
 -- the mesh that stands in b's work buffer went into the six others, which became those of u: what the rules' `filled` says of them
 pub record StoredTo (at : Places) (nvp : ℕ) (b u : Lent) : Type 0 where
-  pub vertices : u.vertices ≡ splice b.vertices 0 (packed vertex_words (vertices_at b.work at.vo at.nv))
-  pub polygons : u.polygons ≡ splice b.polygons 0 (packed (corner_words nvp) (polygons_at b.work at.o at.np))
-  pub neighbours : u.neighbours ≡ splice b.neighbours 0 (packed (padded nvp) (links_at b.work at.lo (polygons_at b.work at.o at.np)))
-  pub regions : u.regions ≡ splice b.regions 0 (map (λ p. p.region) (polygons_at b.work at.o at.np))
-  pub codes : u.codes ≡ splice b.codes 0 (map (λ p. p.code) (polygons_at b.work at.o at.np))
-  pub flags : u.flags ≡ splice b.flags 0 (replicate at.np 0)
+  pub vertices : u.vertices ≡ splice b.vertices 0 (packed vertex_words (vertices_at b.work at.vertices.at at.vertices.n))
+  pub polygons : u.polygons ≡ splice b.polygons 0 (packed (corner_words nvp) (polygons_at b.work at.polygons.at at.polygons.n))
+  pub neighbours : u.neighbours ≡ splice b.neighbours 0 (packed (padded nvp) (links_at b.work at.links (polygons_at b.work at.polygons.at at.polygons.n)))
+  pub regions : u.regions ≡ splice b.regions 0 (map (λ p. p.region) (polygons_at b.work at.polygons.at at.polygons.n))
+  pub codes : u.codes ≡ splice b.codes 0 (map (λ p. p.code) (polygons_at b.work at.polygons.at at.polygons.n))
+  pub flags : u.flags ≡ splice b.flags 0 (replicate at.polygons.n 0)

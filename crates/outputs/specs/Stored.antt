@@ -23,28 +23,28 @@ use Rattle.outputs.specs.Ready.{UpTo, buffers, StoreReady, StoredTo}
 
 -- the vertices and polygons of m stand in w, and ls, the links of their sides, which were written last, over the words `before`
 pub record Stands (at : Places) (w : List ℕ) (m : Mesh) (ls : List (List ℕ)) : Type 0 where
-  pub vertices_end : at.vo + at.nv * vertex_size ≤ length w
-  pub polygons_end : at.o + at.np * polygon_size ≤ length w
-  pub links_end : at.lo + at.np * link_size ≤ length w
-  pub vertices : vertices_at w at.vo at.nv ≡ m.vertices
-  pub polygons : polygons_at w at.o at.np ≡ m.polygons
-  pub links : links_at w at.lo m.polygons ≡ ls
+  pub vertices_end : at.vertices.at + at.vertices.n * vertex_size ≤ length w
+  pub polygons_end : at.polygons.at + at.polygons.n * polygon_size ≤ length w
+  pub links_end : at.links + at.polygons.n * link_size ≤ length w
+  pub vertices : vertices_at w at.vertices.at at.vertices.n ≡ m.vertices
+  pub polygons : polygons_at w at.polygons.at at.polygons.n ≡ m.polygons
+  pub links : links_at w at.links m.polygons ≡ ls
   pub before : List ℕ
-  pub is : w ≡ splice before at.lo (link_records ls)
+  pub is : w ≡ splice before at.links (link_records ls)
 
 -- there is room for them in the six buffers
 pub record Room (at : Places) (nvp : ℕ) (b : Lent) : Type 0 where
-  pub vertices : at.nv * vertex_stride ≤ length b.vertices
-  pub polygons : at.np * nvp ≤ length b.polygons
-  pub neighbours : at.np * nvp ≤ length b.neighbours
-  pub regions : at.np ≤ length b.regions
-  pub codes : at.np ≤ length b.codes
-  pub flags : at.np ≤ length b.flags
+  pub vertices : at.vertices.n * vertex_stride ≤ length b.vertices
+  pub polygons : at.polygons.n * nvp ≤ length b.polygons
+  pub neighbours : at.polygons.n * nvp ≤ length b.neighbours
+  pub regions : at.polygons.n ≤ length b.regions
+  pub codes : at.polygons.n ≤ length b.codes
+  pub flags : at.polygons.n ≤ length b.flags
 
-links_stand : {at : Places} {w : List ℕ} {m : Mesh} {ls : List (List ℕ)} → Stands at w m ls → w ≡ splice w at.lo (link_records ls)
+links_stand : {at : Places} {w : List ℕ} {m : Mesh} {ls : List (List ℕ)} → Stands at w m ls → w ≡ splice w at.links (link_records ls)
 links_stand {at} {w} {m} {ls} s =
-    s.is ∙ sym (splice_over s.before at.lo (link_records ls) (link_records ls) (omega arith))
-    ∙ ap (λ (u : List ℕ). splice u at.lo (link_records ls)) (sym s.is)
+    s.is ∙ sym (splice_over s.before at.links (link_records ls) (link_records ls) (omega arith))
+    ∙ ap (λ (u : List ℕ). splice u at.links (link_records ls)) (sym s.is)
 
 module _ {at : Places} {b : Lent} {m : Mesh} {ls : List (List ℕ)} (s : Stands at b.work m ls) where
   pub store_ready : {nvp : ℕ} → Room at nvp b → nvp ≤ most_corners → All (UpTo nvp) m.polygons → Fits m ls → StoreReady at nvp b
@@ -84,10 +84,10 @@ module _ {at : Places} {b : Lent} {m : Mesh} {ls : List (List ℕ)} (s : Stands 
     vertices = (t.vertices ∙ ap (λ (l : List Vertex). splice b.vertices 0 (packed vertex_words l)) s.vertices) i;
     polygons = (t.polygons ∙ ap (λ (l : List Polygon). splice b.polygons 0 (packed (corner_words j.nvp) l)) s.polygons) i;
     neighbours = (t.neighbours
-        ∙ ap (λ (l : List (List ℕ)). splice b.neighbours 0 (packed (padded j.nvp) l)) (ap (links_at b.work at.lo) s.polygons ∙ s.links)) i;
+        ∙ ap (λ (l : List (List ℕ)). splice b.neighbours 0 (packed (padded j.nvp) l)) (ap (links_at b.work at.links) s.polygons ∙ s.links)) i;
     regions = (t.regions ∙ ap (λ (l : List Polygon). splice b.regions 0 (map (λ p. p.region) l)) s.polygons) i;
     codes = (t.codes ∙ ap (λ (l : List Polygon). splice b.codes 0 (map (λ p. p.code) l)) s.polygons) i;
     flags = (t.flags
-        ∙ ap (λ (n : ℕ). splice b.flags 0 (replicate n 0)) (sym (length_polygons b.work at.o at.np) ∙ ap length s.polygons)) i;
+        ∙ ap (λ (n : ℕ). splice b.flags 0 (replicate n 0)) (sym (length_polygons b.work at.polygons.at at.polygons.n) ∙ ap length s.polygons)) i;
     work = e i;
   }

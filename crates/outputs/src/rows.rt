@@ -10,6 +10,7 @@ ghost use Rattle.outputs.specs.Ready.{RowReady, CornersReady, LinksReady};
 
 use crate::store::Places;
 use records::polygon::{LINK_SIZE, Poly, load_at};
+use records::run::Run;
 
 // The corners of p, and 65,535 behind them, n words in all, go to `to`.
 fn put_corners(out: &mut [u16], to: usize, p: Poly, n: usize)
@@ -23,11 +24,11 @@ fn put_corners(out: &mut [u16], to: usize, p: Poly, n: usize)
 
 // The polygons' corners go to the beginning of out.
 pub fn copy_corners(work: &[u32], at: Places, nvp: usize, out: &mut [u16])
-    requires { CornersReady work.now at.o at.np nvp out.old }
-    ensures { out.new ≡ splice out.old 0 (packed (corner_words nvp) (polygons_at work.now at.o at.np)) }
+    requires { CornersReady work.now at.polygons.at at.polygons.n nvp out.old }
+    ensures { out.new ≡ splice out.old 0 (packed (corner_words nvp) (polygons_at work.now at.polygons.at at.polygons.n)) }
 {
-    for i in 0..at.np {
-        let p = load_at(work, at.o, at.np, i);
+    for i in 0..at.polygons.n {
+        let p = load_at(work, at.polygons, i);
         put_corners(out, i * nvp, p, nvp);
     }
 }
@@ -42,10 +43,10 @@ fn put_links(work: &[u32], at: usize, n: usize, out: &mut [u32], to: usize)
 
 // The polygons' links go to the beginning of out.
 pub fn copy_links(work: &[u32], at: Places, nvp: usize, out: &mut [u32])
-    requires { LinksReady work.now at.o at.np at.lo nvp out.old }
-    ensures { out.new ≡ splice out.old 0 (packed (padded nvp) (links_at work.now at.lo (polygons_at work.now at.o at.np))) }
+    requires { LinksReady work.now at.polygons.at at.polygons.n at.links nvp out.old }
+    ensures { out.new ≡ splice out.old 0 (packed (padded nvp) (links_at work.now at.links (polygons_at work.now at.polygons.at at.polygons.n))) }
 {
-    for i in 0..at.np {
-        put_links(work, at.lo + i * LINK_SIZE, nvp, out, i * nvp);
+    for i in 0..at.polygons.n {
+        put_links(work, at.links + i * LINK_SIZE, nvp, out, i * nvp);
     }
 }

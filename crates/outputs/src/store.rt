@@ -4,15 +4,14 @@ ghost use Rattle.outputs.specs.Ready.{buffers, StoreReady, StoredTo};
 use crate::rows::{copy_corners, copy_links};
 use crate::tags::{clear_flags, copy_tags};
 use crate::vertices::copy_vertices;
+use records::run::Run;
 
-// Where the mesh stands in the work buffer: nv vertices at vo, np polygons at o, and their links at lo.
+// Where the mesh stands in the work buffer: its vertices, its polygons, and the word where their links begin.
 #[derive(Clone, Copy)]
 pub struct Places {
-    pub vo: usize,
-    pub nv: usize,
-    pub o: usize,
-    pub np: usize,
-    pub lo: usize,
+    pub vertices: Run,
+    pub polygons: Run,
+    pub links: usize,
 }
 
 // The mesh goes into the six lent buffers, and what lies past it is unchanged.
@@ -34,5 +33,5 @@ pub fn store_mesh(
     copy_corners(work, at, nvp, polygons);
     copy_links(work, at, nvp, neighbours);
     copy_tags(work, at, regions, codes);
-    clear_flags(flags, at.np);
+    clear_flags(flags, at.polygons.n);
 }

@@ -9,12 +9,12 @@ use records::polygon::POLYGON_SIZE;
 
 // The polygons' regions and area codes go to the beginning of two buffers.
 pub fn copy_tags(work: &[u32], at: Places, regions: &mut [u16], codes: &mut [u8])
-    requires { RegionsReady work.now at.o at.np regions.old × CodesReady work.now at.o at.np codes.old }
-    ensures regions { regions.new ≡ splice regions.old 0 (map (λ p. p.region) (polygons_at work.now at.o at.np)) }
-    ensures codes { codes.new ≡ splice codes.old 0 (map (λ p. p.code) (polygons_at work.now at.o at.np)) }
+    requires { RegionsReady work.now at.polygons.at at.polygons.n regions.old × CodesReady work.now at.polygons.at at.polygons.n codes.old }
+    ensures regions { regions.new ≡ splice regions.old 0 (map (λ p. p.region) (polygons_at work.now at.polygons.at at.polygons.n)) }
+    ensures codes { codes.new ≡ splice codes.old 0 (map (λ p. p.code) (polygons_at work.now at.polygons.at at.polygons.n)) }
 {
-    for i in 0..at.np {
-        let from = at.o + i * POLYGON_SIZE;
+    for i in 0..at.polygons.n {
+        let from = at.polygons.at + i * POLYGON_SIZE;
         regions[i] = work[from + 1] as u16;
         codes[i] = work[from + 2] as u8;
     }

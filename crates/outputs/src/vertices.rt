@@ -12,11 +12,11 @@ use rules::VERTEX_STRIDE;
 
 // The vertices go to the beginning of out.
 pub fn copy_vertices(work: &[u32], at: Places, out: &mut [u16])
-    requires { VerticesReady work.now at.vo at.nv out.old }
-    ensures { out.new ≡ splice out.old 0 (packed vertex_words (vertices_at work.now at.vo at.nv)) }
+    requires { VerticesReady work.now at.vertices.at at.vertices.n out.old }
+    ensures { out.new ≡ splice out.old 0 (packed vertex_words (vertices_at work.now at.vertices.at at.vertices.n)) }
 {
-    for k in 0..at.nv {
-        let from = at.vo + k * VERTEX_SIZE;
+    for k in 0..at.vertices.n {
+        let from = at.vertices.at + k * VERTEX_SIZE;
         let to = k * VERTEX_STRIDE;
         out[to] = work[from] as u16;
         out[to + 1] = work[from + 1] as u16;

@@ -16,7 +16,7 @@ use Rattle.polymesh.specs.Layout.{Sized, used_of, polygons_of, site_of, edge_tab
 
 -- where the mesh and its links stand
 abbrev pub places_of : ℕ → ℕ → Counts → Places
-places_of v t n = record { vo = 4096; nv = n.vertices; o = polygons_of v; np = n.polygons; lo = link_place_of v t }
+places_of v t n = record { vertices = record { at = 4096; n = n.vertices }; polygons = record { at = polygons_of v; n = n.polygons }; links = link_place_of v t }
 
 -- the links of a mesh on a grid of w by h with this border: R6 and R7, as the rules' `linked` has them
 abbrev pub links_with : ℕ → ℕ → ℕ → Mesh → List (List ℕ)

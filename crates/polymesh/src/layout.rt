@@ -8,6 +8,7 @@ use contours::ground::Ground;
 use links::edges::EdgeTables;
 use outputs::store::Places;
 use records::counts::Counts;
+use records::run::Run;
 use removals::site::Site;
 
 // Where the vertices begin, behind the buckets.
@@ -95,10 +96,14 @@ pub fn places(v: usize, t: usize, n: Counts) -> Places
     ensures { result ≡ places_of v t n }
 {
     Places {
-        vo: VERTICES,
-        nv: n.vertices,
-        o: polygons_at(v),
-        np: n.polygons,
-        lo: links_at(v, t),
+        vertices: Run {
+            at: VERTICES,
+            n: n.vertices,
+        },
+        polygons: Run {
+            at: polygons_at(v),
+            n: n.polygons,
+        },
+        links: links_at(v, t),
     }
 }

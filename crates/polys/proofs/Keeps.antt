@@ -116,14 +116,14 @@ kept_fewer g h k = record { rows = k.rows; at = λ r l m. k.at r (omega arith) m
 -- the rows from r on are kept, those below are as they were, and so is every other word
 pub record Keeping (w₀ : List ℕ) (F : Field) (w : List ℕ) (r : ℕ) : Type 0 where
   pub kept : KeptFrom w F r
-  pub below : (q : ℕ) → q < r → row_at w F.ro q ≡ row_at w₀ F.ro q
-  pub same : wiped w F.ro F.np ≡ wiped w₀ F.ro F.np
-  pub vertices : vertices_at w F.vo F.nv ≡ vertices_at w₀ F.vo F.nv
-  pub polygons : polygons_at w F.o F.np ≡ polygons_at w₀ F.o F.np
+  pub below : (q : ℕ) → q < r → row_at w F.rows q ≡ row_at w₀ F.rows q
+  pub same : wiped w F.rows F.polygons.n ≡ wiped w₀ F.rows F.polygons.n
+  pub vertices : vertices_at w F.vertices.at F.vertices.n ≡ vertices_at w₀ F.vertices.at F.vertices.n
+  pub polygons : polygons_at w F.polygons.at F.polygons.n ≡ polygons_at w₀ F.polygons.at F.polygons.n
   pub size : length w ≡ length w₀
-  pub most : r ≤ F.np
+  pub most : r ≤ F.polygons.n
 
-pub keeping_begin : {w : List ℕ} {F : Field} → RowsReadyIn w F → Keeping w F w F.np
+pub keeping_begin : {w : List ℕ} {F : Field} → RowsReadyIn w F → Keeping w F w F.polygons.n
 keeping_begin ready = record {
   kept = record { rows = ready; at = λ r f h. absurd (omega arith) };
   below = λ q h. refl;
@@ -138,51 +138,51 @@ module _ {w₀ : List ℕ} {F : Field} {w : List ℕ} {r : ℕ} (g : Keeping w�
   pub kept_behind : KeptFrom w F (r - 1 + 1)
   kept_behind = kept_fewer (r - 1 + 1) (omega arith) g.kept
 
-  module _ {v : List ℕ} (e : v ≡ splice w (F.ro + (r - 1) * row_size) (row_record (vertices_at w F.vo F.nv) F.nvp (polygons_at w F.o F.np) (r - 1))) where
+  module _ {v : List ℕ} (e : v ≡ splice w (F.rows + (r - 1) * row_size) (row_record (vertices_at w F.vertices.at F.vertices.n) F.nvp (polygons_at w F.polygons.at F.polygons.n) (r - 1))) where
     row : List ℕ
-    row = row_record (vertices_at w F.vo F.nv) F.nvp (polygons_at w F.o F.np) (r - 1)
+    row = row_record (vertices_at w F.vertices.at F.vertices.n) F.nvp (polygons_at w F.polygons.at F.polygons.n) (r - 1)
 
     long : length row ≡ row_size
     unfolding row
-    long = record_long (vertices_at w F.vo F.nv) F.nvp (polygons_at w F.o F.np) (r - 1)
+    long = record_long (vertices_at w F.vertices.at F.vertices.n) F.nvp (polygons_at w F.polygons.at F.polygons.n) (r - 1)
 
-    room : F.ro + F.np * row_size ≤ length w
+    room : F.rows + F.polygons.n * row_size ≤ length w
     room = g.kept.rows.room
 
-    wiped_on : wiped v F.ro F.np ≡ wiped w F.ro F.np
+    wiped_on : wiped v F.rows F.polygons.n ≡ wiped w F.rows F.polygons.n
     unfolding wiped row
-    wiped_on = rw e (swallowed w F.ro ((r - 1) * row_size) row (replicate (F.np * row_size) 0)
-        (omega (arith, long, length-replicate {A = ℕ} (F.np * row_size) 0, g.most)) (omega (arith, length-replicate {A = ℕ} (F.np * row_size) 0, room)))
+    wiped_on = rw e (swallowed w F.rows ((r - 1) * row_size) row (replicate (F.polygons.n * row_size) 0)
+        (omega (arith, long, length-replicate {A = ℕ} (F.polygons.n * row_size) 0, g.most)) (omega (arith, length-replicate {A = ℕ} (F.polygons.n * row_size) 0, room)))
 
-    vertices_on : vertices_at v F.vo F.nv ≡ vertices_at w F.vo F.nv
-    vertices_on = vertices_under g.kept.rows (F.ro + (r - 1) * row_size) _ (omega arith) e
+    vertices_on : vertices_at v F.vertices.at F.vertices.n ≡ vertices_at w F.vertices.at F.vertices.n
+    vertices_on = vertices_under g.kept.rows (F.rows + (r - 1) * row_size) _ (omega arith) e
 
-    polygons_on : polygons_at v F.o F.np ≡ polygons_at w F.o F.np
-    polygons_on = polygons_under g.kept.rows (F.ro + (r - 1) * row_size) _ (omega arith) e
+    polygons_on : polygons_at v F.polygons.at F.polygons.n ≡ polygons_at w F.polygons.at F.polygons.n
+    polygons_on = polygons_under g.kept.rows (F.rows + (r - 1) * row_size) _ (omega arith) e
 
-    row_on : row_at v F.ro (r - 1) ≡ row
+    row_on : row_at v F.rows (r - 1) ≡ row
     unfolding row
-    row_on = rw e (view_same w (F.ro + (r - 1) * row_size) row_size row long (omega (arith, room, g.most)))
+    row_on = rw e (view_same w (F.rows + (r - 1) * row_size) row_size row long (omega (arith, room, g.most)))
 
-    others_on : (q : ℕ) → r ≤ q → row_at v F.ro q ≡ row_at w F.ro q
+    others_on : (q : ℕ) → r ≤ q → row_at v F.rows q ≡ row_at w F.rows q
     unfolding row
-    others_on q h = rw e (view_after w (F.ro + (r - 1) * row_size) (F.ro + q * row_size) row_size row (omega (arith, long)))
+    others_on q h = rw e (view_after w (F.rows + (r - 1) * row_size) (F.rows + q * row_size) row_size row (omega (arith, long)))
 
     pub keeping_more : Keeping w₀ F v (r - 1)
     unfolding row
     keeping_more = record {
       kept = record {
-        rows = ready_under g.kept.rows (F.ro + (r - 1) * row_size) _ (omega arith) e;
+        rows = ready_under g.kept.rows (F.rows + (r - 1) * row_size) _ (omega arith) e;
         at = λ q h k. rw (vertices_on, polygons_on) (⊎_elim
             (λ (z : q ≡ r - 1). rw z (record { is = row_on }))
             (λ (z : q ≢ r - 1). record { is = others_on q (omega (arith, z)) ∙ (g.kept.at q (omega (arith, z)) k).is })
             (eq_or_ne q (r - 1)));
       };
-      below = λ q h. rw e (view_before w (F.ro + (r - 1) * row_size) (F.ro + q * row_size) row_size _ (omega arith)) ∙ g.below q (omega arith);
+      below = λ q h. rw e (view_before w (F.rows + (r - 1) * row_size) (F.rows + q * row_size) row_size _ (omega arith)) ∙ g.below q (omega arith);
       same = wiped_on ∙ g.same;
       vertices = vertices_on ∙ g.vertices;
       polygons = polygons_on ∙ g.polygons;
-      size = size_under g.kept.rows (F.ro + (r - 1) * row_size) _ (omega arith) e ∙ g.size;
+      size = size_under g.kept.rows (F.rows + (r - 1) * row_size) _ (omega arith) e ∙ g.size;
       most = omega (arith, g.most);
     }
 
@@ -192,25 +192,25 @@ keeping_end g h = record { kept = kept_fewer 0 h g.kept; same = g.same }
 -- ---- a row and its stamp
 
 -- a stamp made of the corners where they stand
-pub stamped_of : {w : List ℕ} {F : Field} (r : ℕ) {s : ℕ} → KeptFrom w F (r + 1) → r < F.np
-    → s ≡ stamp_of (corners_from w (F.o + r * polygon_size)) → Stamped w F r s
+pub stamped_of : {w : List ℕ} {F : Field} (r : ℕ) {s : ℕ} → KeptFrom w F (r + 1) → r < F.polygons.n
+    → s ≡ stamp_of (corners_from w (F.polygons.at + r * polygon_size)) → Stamped w F r s
 stamped_of r k h e = record { kept = k; below = h; is = e ∙ ap stamp_of (corners_in_lem k.rows.ready r h) }
 
 module _ {w : List ℕ} {F : Field} {r s : ℕ} (k : Stamped w F r s) where
-  pub stamped_apart : (q t : ℕ) {u : Bool} {m : Pair} → r < q → q < F.np → t ≡ stamp_in w F.ro q → u ≡ eqb (bit_and s t) 0 → u ≡ true → m ≡ no_pair
-      → m ≡ merge_value (vertices_at w F.vo F.nv) F.nvp (polygons_at w F.o F.np) r q
+  pub stamped_apart : (q t : ℕ) {u : Bool} {m : Pair} → r < q → q < F.polygons.n → t ≡ stamp_in w F.rows q → u ≡ eqb (bit_and s t) 0 → u ≡ true → m ≡ no_pair
+      → m ≡ merge_value (vertices_at w F.vertices.at F.vertices.n) F.nvp (polygons_at w F.polygons.at F.polygons.n) r q
   stamped_apart q t h b f e z n =
-      let x : t ≡ stamp_of (polygon_at (polygons_at w F.o F.np) q).corners = f ∙ stamp_read (k.kept.at q (omega arith) b) in
+      let x : t ≡ stamp_of (polygon_at (polygons_at w F.polygons.at F.polygons.n) q).corners = f ∙ stamp_read (k.kept.at q (omega arith) b) in
       let y : bit_and s t ≡ 0 = eqb-true (bit_and s t) 0 (sym e ∙ z) in
-      n ∙ sym (apart_value (vertices_at w F.vo F.nv) F.nvp (polygons_at w F.o F.np) r q (rw (k.is, x) at y))
+      n ∙ sym (apart_value (vertices_at w F.vertices.at F.vertices.n) F.nvp (polygons_at w F.polygons.at F.polygons.n) r q (rw (k.is, x) at y))
 
   -- the numbers of the pair are words
-  pub row_fits : {m : Pair} → m ≡ row_of (vertices_at w F.vo F.nv) F.nvp (polygons_at w F.o F.np) r → RowFits w (F.ro + r * row_size) m
+  pub row_fits : {m : Pair} → m ≡ row_of (vertices_at w F.vertices.at F.vertices.n) F.nvp (polygons_at w F.polygons.at F.polygons.n) r → RowFits w (F.rows + r * row_size) m
   row_fits {m} e =
-      let vs = vertices_at w F.vo F.nv in
-      let ps = polygons_at w F.o F.np in
+      let vs = vertices_at w F.vertices.at F.vertices.n in
+      let ps = polygons_at w F.polygons.at F.polygons.n in
       let y = row_of vs F.nvp ps r in
-      let l = length_polygons w F.o F.np in
+      let l = length_polygons w F.polygons.at F.polygons.n in
       let i = row_is vs F.nvp ps r (omega (arith, k.below)) in
       rw e (⊎_elim
       (λ (a : 0 < y.length).
@@ -233,7 +233,7 @@ module _ {w : List ℕ} {F : Field} {r s : ℕ} (k : Stamped w F r s) where
       })
       (lt_or_le 0 y.length))
 
-  pub row_made : {m : Pair} {v : List ℕ} → m ≡ row_of (vertices_at w F.vo F.nv) F.nvp (polygons_at w F.o F.np) r → v ≡ splice w (F.ro + r * row_size) (row_words m s)
-      → v ≡ splice w (F.ro + r * row_size) (row_record (vertices_at w F.vo F.nv) F.nvp (polygons_at w F.o F.np) r)
+  pub row_made : {m : Pair} {v : List ℕ} → m ≡ row_of (vertices_at w F.vertices.at F.vertices.n) F.nvp (polygons_at w F.polygons.at F.polygons.n) r → v ≡ splice w (F.rows + r * row_size) (row_words m s)
+      → v ≡ splice w (F.rows + r * row_size) (row_record (vertices_at w F.vertices.at F.vertices.n) F.nvp (polygons_at w F.polygons.at F.polygons.n) r)
   unfolding row_record
   row_made e f = f ∙ rw (e, k.is) refl

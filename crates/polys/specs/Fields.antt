@@ -7,14 +7,14 @@ use Rattle.polys.specs.declared.field.Field.{Field}
 use Rattle.polys.specs.Ready.{Ready}
 
 abbrev pub vertices_in : List ℕ → Field → List Vertex
-vertices_in w f = vertices_at w f.vo f.nv
+vertices_in w f = vertices_at w f.vertices.at f.vertices.n
 
 abbrev pub polygons_in : List ℕ → Field → List Polygon
-polygons_in w f = polygons_at w f.o f.np
+polygons_in w f = polygons_at w f.polygons.at f.polygons.n
 
 -- the same places, with the first n polygons
 abbrev pub first : Field → ℕ → Field
-first f n = record { vo = f.vo; nv = f.nv; o = f.o; np = n; nvp = f.nvp; ro = f.ro }
+first f n = record { vertices = f.vertices; polygons = record { at = f.polygons.at; n = n }; nvp = f.nvp; rows = f.rows }
 
 abbrev pub ReadyIn : List ℕ → Field → Type 0
-ReadyIn w f = Ready w f.vo f.nv f.o f.np f.nvp
+ReadyIn w f = Ready w f.vertices.at f.vertices.n f.polygons.at f.polygons.n f.nvp

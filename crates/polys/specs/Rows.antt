@@ -62,33 +62,33 @@ pub record RowFits (w : List ℕ) (at : ℕ) (m : Pair) : Type 0 where
   pub side_b : m.eb < 2 ^ 32
 
 abbrev pub RowsReadyIn : List ℕ → Field → Type 0
-RowsReadyIn w f = RowsReady w f.vo f.nv f.o f.np f.nvp f.ro
+RowsReadyIn w f = RowsReady w f.vertices.at f.vertices.n f.polygons.at f.polygons.n f.nvp f.rows
 
 -- of the rows those from q on are kept
 pub record KeptFrom (w : List ℕ) (f : Field) (q : ℕ) : Type 0 where
   pub rows : RowsReadyIn w f
-  pub at : (r : ℕ) → q ≤ r → r < f.np → RowIs w f.ro r (vertices_in w f) f.nvp (polygons_in w f)
+  pub at : (r : ℕ) → q ≤ r → r < f.polygons.n → RowIs w f.rows r (vertices_in w f) f.nvp (polygons_in w f)
 
 -- the same, and s is the stamp of polygon r, which is the one before them
 pub record Stamped (w : List ℕ) (f : Field) (r s : ℕ) : Type 0 where
   pub kept : KeptFrom w f (r + 1)
-  pub below : r < f.np
+  pub below : r < f.polygons.n
   pub is : s ≡ stamp_of (polygon_at (polygons_in w f) r).corners
 
 -- row r is that of ps, of which a join of a and b left the polygons at o; the rows behind it are kept
 pub record Renewable (w : List ℕ) (f : Field) (a b r : ℕ) : Type 0 where
   pub kept : KeptFrom w f (r + 1)
-  pub below : r < f.np
+  pub below : r < f.polygons.n
   pub ps : List Polygon
   pub after : After ps (polygons_in w f) a b
-  pub at : RowIs w f.ro r (vertices_in w f) f.nvp ps
+  pub at : RowIs w f.rows r (vertices_in w f) f.nvp ps
 
 -- all rows are those of ps
 pub record AllRenewable (w : List ℕ) (f : Field) (a b : ℕ) : Type 0 where
   pub rows : RowsReadyIn w f
   pub ps : List Polygon
   pub after : After ps (polygons_in w f) a b
-  pub at : (r : ℕ) → r < f.np → RowIs w f.ro r (vertices_in w f) f.nvp ps
+  pub at : (r : ℕ) → r < f.polygons.n → RowIs w f.rows r (vertices_in w f) f.nvp ps
 
 -- w, with zeros in the place of np rows at ro
 unfoldable pub wiped : List ℕ → ℕ → ℕ → List ℕ
@@ -97,7 +97,7 @@ wiped w ro np = splice w ro (replicate (np * row_size) 0)
 -- all rows are kept, and every other word is as it was
 pub record RowsKept (w v : List ℕ) (f : Field) : Type 0 where
   pub kept : KeptFrom v f 0
-  pub same : wiped v f.ro f.np ≡ wiped w f.ro f.np
+  pub same : wiped v f.rows f.polygons.n ≡ wiped w f.rows f.polygons.n
 
 -- where so many polygons are merged that rows are kept (t), all rows are
 pub record RowsIf (w : List ℕ) (f : Field) (t : Bool) : Type 0 where
@@ -112,7 +112,7 @@ pub record RenewIf (w : List ℕ) (f : Field) (a b : ℕ) (t : Bool) : Type 0 wh
 -- and every word but those of the rows is as it was; where none are kept, every word
 pub record KeptIf (w v : List ℕ) (f : Field) (t : Bool) : Type 0 where
   pub rows : RowsIf v f t
-  pub same : wiped v f.ro f.np ≡ wiped w f.ro f.np
+  pub same : wiped v f.rows f.polygons.n ≡ wiped w f.rows f.polygons.n
   pub still : t ≡ false → v ≡ w
 
 -- the polygons are to be merged, and behind them there is room for their rows

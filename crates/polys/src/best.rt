@@ -17,11 +17,11 @@ pub fn greater(best: Pair, m: Pair) -> Pair
 
 // The best of `best` and the pairs of polygon a with each one after it.
 fn best_of_row(work: &[u32], f: Field, a: usize, best: Pair) -> Pair
-    requires { ReadyIn work.now f × (a < f.np) }
+    requires { ReadyIn work.now f × (a < f.polygons.n) }
     ensures { result ≡ best_of_row (vertices_in work.now f) f.nvp (polygons_in work.now f) a best }
 {
     let mut m = best;
-    for b in a + 1..f.np {
+    for b in a + 1..f.polygons.n {
         m = greater(m, get_poly_merge_value(work, f, a, b));
     }
     m
@@ -33,7 +33,7 @@ pub fn best_pair(work: &[u32], f: Field) -> Pair
     ensures { result ≡ best_pair (vertices_in work.now f) f.nvp (polygons_in work.now f) }
 {
     let mut m = no_pair();
-    for a in 0..f.np {
+    for a in 0..f.polygons.n {
         m = best_of_row(work, f, a, m);
     }
     m

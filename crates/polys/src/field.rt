@@ -1,12 +1,12 @@
 // The places in the work buffer that a merge works on.
 
-// nv vertices stand at vo and np polygons at o, each of at most nvp corners, and the rows of the polygons at ro.
+use records::run::Run;
+
+// The vertices and the polygons, each of at most nvp corners, and the word where the polygons' rows begin.
 #[derive(Clone, Copy)]
 pub struct Field {
-    pub vo: usize,
-    pub nv: usize,
-    pub o: usize,
-    pub np: usize,
+    pub vertices: Run,
+    pub polygons: Run,
     pub nvp: usize,
-    pub ro: usize,
+    pub rows: usize,
 }

@@ -13,6 +13,7 @@ use crate::field::Field;
 use crate::row::ROW_SIZE;
 use crate::search::{AllPairs, KeptRows, Search};
 use records::polygon::{NONE, Poly, load_at, store_at, swap_remove};
+use records::run::Run;
 use rules::Pair;
 use words::fill::fill;
 
@@ -57,72 +58,73 @@ pub fn merge_poly_verts(p: Poly, q: Poly, ea: usize, eb: usize) -> Poly
 // The join of a pair takes the place of its first, the last polygon takes the place of its second, and a blank one that of
 // the last.
 pub fn join_pair(work: &mut [u32], f: Field, m: Pair)
-    requires { JoinReady work.old f.o f.np f.nvp m }
-    ensures { work.new ≡ splice work.old f.o (polygon_records (join_pair (polygons_in work.old f) m ++ (no_polygon ∷ []))) }
+    requires { JoinReady work.old f.polygons.at f.polygons.n f.nvp m }
+    ensures { work.new ≡ splice work.old f.polygons.at (polygon_records (join_pair (polygons_in work.old f) m ++ (no_polygon ∷ []))) }
 {
-    let p = load_at(work, f.o, f.np, m.a);
-    let q = load_at(work, f.o, f.np, m.b);
+    let p = load_at(work, f.polygons, m.a);
+    let q = load_at(work, f.polygons, m.b);
     let r = merge_poly_verts(p, q, m.ea, m.eb);
-    store_at(work, f.o, f.np, m.a, r);
-    swap_remove(work, f.o, f.np, m.b);
+    store_at(work, f.polygons, m.a, r);
+    swap_remove(work, f.polygons, m.b);
 }
 
 // The polygons are merged as far as they can be, the best pair being found by S. The result says how many are left.
 fn merge_pairs<S: Search>(work: &mut [u32], f: Field) -> usize
-    requires { RowsIf work.old f S.kept × Tidy work.old f.o f.np × (3 < f.nvp) }
-    ensures { MergedTo (wiped work.old f.ro f.np) (wiped work.new f.ro f.np) f.vo f.nv f.o f.np f.nvp result }
+    requires { RowsIf work.old f S.kept × Tidy work.old f.polygons.at f.polygons.n × (3 < f.nvp) }
+    ensures { MergedTo (wiped work.old f.rows f.polygons.n) (wiped work.new f.rows f.polygons.n) f.vertices.at f.vertices.n f.polygons.at f.polygons.n f.nvp result }
 {
-    let mut n = f.np;
+    let mut n = f.polygons.n;
     loop {
-        let g = Field { np: n, ..f };
+        let g = Field {
+            polygons: Run { n, ..f.polygons },
+            ..f
+        };
         let m = S::best(work, g);
         if m.length == 0 {
             return n;
         }
         join_pair(work, g, m);
         n -= 1;
-        S::renew(work, Field { np: n, ..f }, m.a, m.b);
+        S::renew(
+            work,
+            Field {
+                polygons: Run { n, ..f.polygons },
+                ..f
+            },
+            m.a,
+            m.b,
+        );
     }
 }
 
 // The same from the beginning, with zeros left in the room for rows.
 fn merge_by<S: Search>(work: &mut [u32], f: Field) -> usize
-    requires { MergeRoom work.old f.vo f.nv f.o f.np f.nvp f.ro × (3 < f.nvp) }
-    ensures { MergedOver work.old work.new f.vo f.nv f.o f.np f.nvp f.ro result }
+    requires { MergeRoom work.old f.vertices.at f.vertices.n f.polygons.at f.polygons.n f.nvp f.rows × (3 < f.nvp) }
+    ensures { MergedOver work.old work.new f.vertices.at f.vertices.n f.polygons.at f.polygons.n f.nvp f.rows result }
 {
     S::begin(work, f);
     let n = merge_pairs::<S>(work, f);
-    fill(work, f.ro, f.np * ROW_SIZE, 0);
+    fill(work, f.rows, f.polygons.n * ROW_SIZE, 0);
     n
 }
 
-// The np polygons at o are merged as far as they can be, with zeros left at ro, where there is room for their rows. The result
+// The polygons are merged as far as they can be, with zeros left at ro, where there is room for their rows. The result
 // says how many are left.
-pub fn merge_polys(
-    work: &mut [u32],
-    vo: usize,
-    nv: usize,
-    o: usize,
-    np: usize,
-    nvp: usize,
-    ro: usize,
-) -> usize
-    requires { MergeRoom work.old vo nv o np nvp ro }
-    ensures { MergedOver work.old work.new vo nv o np nvp ro result }
+pub fn merge_polys(work: &mut [u32], vertices: Run, polygons: Run, nvp: usize, ro: usize) -> usize
+    requires { MergeRoom work.old vertices.at vertices.n polygons.at polygons.n nvp ro }
+    ensures { MergedOver work.old work.new vertices.at vertices.n polygons.at polygons.n nvp ro result }
 {
     if nvp <= 3 {
-        fill(work, ro, np * ROW_SIZE, 0);
-        return np;
+        fill(work, ro, polygons.n * ROW_SIZE, 0);
+        return polygons.n;
     }
     let f = Field {
-        vo,
-        nv,
-        o,
-        np,
+        vertices,
+        polygons,
         nvp,
-        ro,
+        rows: ro,
     };
-    if FEW < np {
+    if FEW < polygons.n {
         merge_by::<KeptRows>(work, f)
     } else {
         merge_by::<AllPairs>(work, f)

@@ -1,4 +1,4 @@
-// One kept row of the merge: of polygon r the best pair with one after it, and its stamp. It stands at f.ro + r * ROW_SIZE, behind the
+// One kept row of the merge: of polygon r the best pair with one after it, and its stamp. It stands at f.rows + r * ROW_SIZE, behind the
 // polygons. A row is made when those behind it are kept, since it looks at their stamps.
 ghost use Rattle.std.specs.Prelude.{◌≡◌, ◌+◌, ◌*◌, ◌≤◌, ◌<◌, length};
 ghost use Rattle.mem.specs.Slice.{splice};
@@ -19,10 +19,10 @@ pub const ROW_SIZE: usize = 5;
 
 // The pair of row r.
 pub fn row_at(work: &[u32], f: Field, r: usize) -> Pair
-    requires { f.ro + r * row_size + row_size ≤ length work.now }
-    ensures { result ≡ row_in work.now f.ro r }
+    requires { f.rows + r * row_size + row_size ≤ length work.now }
+    ensures { result ≡ row_in work.now f.rows r }
 {
-    let at = f.ro + r * ROW_SIZE;
+    let at = f.rows + r * ROW_SIZE;
     Pair {
         length: work[at],
         a: r,
@@ -34,10 +34,10 @@ pub fn row_at(work: &[u32], f: Field, r: usize) -> Pair
 
 // The stamp of row r.
 pub fn stamp_at(work: &[u32], f: Field, r: usize) -> u32
-    requires { f.ro + r * row_size + row_size ≤ length work.now }
-    ensures { result ≡ stamp_in work.now f.ro r }
+    requires { f.rows + r * row_size + row_size ≤ length work.now }
+    ensures { result ≡ stamp_in work.now f.rows r }
 {
-    work[f.ro + r * ROW_SIZE + 4]
+    work[f.rows + r * ROW_SIZE + 4]
 }
 
 // The words of a row are written at `at`: the pair m, and the stamp s.
@@ -54,7 +54,7 @@ fn store_row(work: &mut [u32], at: usize, m: Pair, s: u32)
 
 // The value of polygon a, whose stamp is s, and b, after it. Their corners are looked at only if the stamps have a bit in common.
 pub fn stamped_value(work: &[u32], f: Field, a: usize, s: u32, b: usize) -> Pair
-    requires { Stamped work.now f a s × (a < b) × (b < f.np) }
+    requires { Stamped work.now f a s × (a < b) × (b < f.polygons.n) }
     ensures { result ≡ merge_value (vertices_in work.now f) f.nvp (polygons_in work.now f) a b }
 {
     if are_apart(s, stamp_at(work, f, b)) {
@@ -69,7 +69,7 @@ fn stamped_row(work: &[u32], f: Field, a: usize, s: u32) -> Pair
     ensures { result ≡ row_of (vertices_in work.now f) f.nvp (polygons_in work.now f) a }
 {
     let mut m = no_pair();
-    for b in a + 1..f.np {
+    for b in a + 1..f.polygons.n {
         m = greater(m, stamped_value(work, f, a, s, b));
     }
     m
@@ -77,11 +77,11 @@ fn stamped_row(work: &[u32], f: Field, a: usize, s: u32) -> Pair
 
 // Row r is made, the rows behind it are kept.
 pub fn keep_row(work: &mut [u32], f: Field, r: usize)
-    requires { KeptFrom work.old f (r + 1) × (r < f.np) }
-    ensures { work.new ≡ splice work.old (f.ro + r * row_size)
+    requires { KeptFrom work.old f (r + 1) × (r < f.polygons.n) }
+    ensures { work.new ≡ splice work.old (f.rows + r * row_size)
         (row_record (vertices_in work.old f) f.nvp (polygons_in work.old f) r) }
 {
-    let s = stamp_from(work, f.o + r * POLYGON_SIZE);
+    let s = stamp_from(work, f.polygons.at + r * POLYGON_SIZE);
     let m = stamped_row(work, f, r, s);
-    store_row(work, f.ro + r * ROW_SIZE, m, s);
+    store_row(work, f.rows + r * ROW_SIZE, m, s);
 }

@@ -17,7 +17,7 @@ pub fn keep_rows(work: &mut [u32], f: Field)
     requires { RowsReadyIn work.old f }
     ensures { RowsKept work.old work.new f }
 {
-    for r in (0..f.np).rev() {
+    for r in (0..f.polygons.n).rev() {
         keep_row(work, f, r);
     }
 }
@@ -28,7 +28,7 @@ pub fn best_kept(work: &[u32], f: Field) -> Pair
     ensures { result ≡ best_pair (vertices_in work.now f) f.nvp (polygons_in work.now f) }
 {
     let mut m = no_pair();
-    for r in 0..f.np {
+    for r in 0..f.polygons.n {
         m = greater(m, row_at(work, f, r));
     }
     m
@@ -56,7 +56,7 @@ fn is_reached(work: &[u32], f: Field, r: usize, s: u32, q: usize, l: u32) -> boo
     if q <= r {
         return false;
     }
-    if f.np <= q {
+    if f.polygons.n <= q {
         return false;
     }
     is_rival(l, stamped_value(work, f, r, s, q))
@@ -67,7 +67,7 @@ fn is_stale(work: &[u32], f: Field, a: usize, b: usize, r: usize, m: Pair) -> bo
     requires { Renewable work.now f a b r }
     ensures { result ≡ is_stale (vertices_in work.now f) f.nvp (polygons_in work.now f) a b r m.length m.b }
 {
-    if is_moved(r, m.b, a, b, f.np) {
+    if is_moved(r, m.b, a, b, f.polygons.n) {
         return true;
     }
     let s = stamp_at(work, f, r);
@@ -80,7 +80,7 @@ fn is_stale(work: &[u32], f: Field, a: usize, b: usize, r: usize, m: Pair) -> bo
 // Row r after a join of a and b, the rows behind it are kept.
 fn renew_row(work: &mut [u32], f: Field, a: usize, b: usize, r: usize)
     requires { Renewable work.old f a b r }
-    ensures { work.new ≡ splice work.old (f.ro + r * row_size)
+    ensures { work.new ≡ splice work.old (f.rows + r * row_size)
         (row_record (vertices_in work.old f) f.nvp (polygons_in work.old f) r) }
 {
     let m = row_at(work, f, r);
@@ -94,7 +94,7 @@ pub fn renew_rows(work: &mut [u32], f: Field, a: usize, b: usize)
     requires { AllRenewable work.old f a b }
     ensures { RowsKept work.old work.new f }
 {
-    for r in (0..f.np).rev() {
+    for r in (0..f.polygons.n).rev() {
         renew_row(work, f, a, b, r);
     }
 }

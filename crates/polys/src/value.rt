@@ -18,24 +18,25 @@ use plane::ring::next;
 use plane::turn::is_left;
 use records::corner::{corner_from, count_from, end_from, place_from};
 use records::polygon::POLYGON_SIZE;
+use records::run::Run;
 use rules::Pair;
 
 // Whether the corner where side i of the one at `at` starts turns left into the one at `bt`, past its side j.
 fn turns_left(work: &[u32], f: Field, at: usize, bt: usize, i: usize, j: usize) -> bool
-    requires { Joint work.now f.vo f.nv at bt i j }
+    requires { Joint work.now f.vertices.at f.vertices.n at bt i j }
     ensures { result ≡ turns_left (vertices_in work.now f) (corners_from work.now at) (corners_from work.now bt) i j }
 {
     let na = count_from(work, at);
     let nb = count_from(work, bt);
-    let a = place_from(work, f.vo, f.nv, at, (i + na - 1) % na);
-    let b = place_from(work, f.vo, f.nv, at, i);
-    let c = place_from(work, f.vo, f.nv, bt, (j + 2) % nb);
+    let a = place_from(work, f.vertices, at, (i + na - 1) % na);
+    let b = place_from(work, f.vertices, at, i);
+    let c = place_from(work, f.vertices, bt, (j + 2) % nb);
     is_left(a, b, c)
 }
 
 // Whether the two can be joined there: the sides run in opposite directions, and both joined corners turn left.
 fn may_join(work: &[u32], f: Field, at: usize, bt: usize, i: usize, j: usize) -> bool
-    requires { Joint work.now f.vo f.nv at bt i j }
+    requires { Joint work.now f.vertices.at f.vertices.n at bt i j }
     ensures { result ≡ may_join (vertices_in work.now f) (corners_from work.now at) (corners_from work.now bt) i j }
 {
     let a = is_opposite(
@@ -51,11 +52,11 @@ fn may_join(work: &[u32], f: Field, at: usize, bt: usize, i: usize, j: usize) ->
 
 // The squared length of side i of the one at `at`.
 fn side_length(work: &[u32], f: Field, at: usize, i: usize) -> u32
-    requires { Placed work.now f.vo f.nv × All (Below f.nv) (corners_from work.now at) × CornerOf work.now at i }
+    requires { Placed work.now f.vertices.at f.vertices.n × All (Below f.vertices.n) (corners_from work.now at) × CornerOf work.now at i }
     ensures { result ≡ squared (place_of (vertices_in work.now f) (side_start (corners_from work.now at) i)) (place_of (vertices_in work.now f) (side_end (corners_from work.now at) i)) }
 {
-    let a = place_from(work, f.vo, f.nv, at, i);
-    let b = place_from(work, f.vo, f.nv, at, next(i, count_from(work, at)));
+    let a = place_from(work, f.vertices, at, i);
+    let b = place_from(work, f.vertices, at, next(i, count_from(work, at)));
     length_squared(a, b)
 }
 
@@ -83,7 +84,7 @@ fn pair_of(
     i: usize,
     j: usize,
 ) -> Pair
-    requires { Joint work.now f.vo f.nv at bt i j }
+    requires { Joint work.now f.vertices.at f.vertices.n at bt i j }
     ensures { result ≡ pair_of (vertices_in work.now f) (corners_from work.now at) (corners_from work.now bt) a b i j }
 {
     if may_join(work, f, at, bt, i, j) {
@@ -100,11 +101,11 @@ fn pair_of(
 
 // Polygons a and b: the sides that they share, with their squared length, or 0 if they can't be merged.
 pub fn get_poly_merge_value(work: &[u32], f: Field, a: usize, b: usize) -> Pair
-    requires { ReadyIn work.now f × (a < f.np) × (b < f.np) }
+    requires { ReadyIn work.now f × (a < f.polygons.n) × (b < f.polygons.n) }
     ensures { result ≡ merge_value (vertices_in work.now f) f.nvp (polygons_in work.now f) a b }
 {
-    let at = f.o + a * POLYGON_SIZE;
-    let bt = f.o + b * POLYGON_SIZE;
+    let at = f.polygons.at + a * POLYGON_SIZE;
+    let bt = f.polygons.at + b * POLYGON_SIZE;
     if f.nvp + 2 < count_from(work, at) + count_from(work, bt) {
         return no_pair();
     }

@@ -8,6 +8,7 @@ ghost use Rattle.records.specs.Layout.{vertices_at, Placed};
 ghost use Rattle.records.specs.Values.{corners_from, Stands, CornerOf};
 
 use crate::polygon::CORNERS_AT;
+use crate::run::Run;
 use crate::vertex::place_at;
 use plane::ring::next;
 use rules::Point;
@@ -37,11 +38,11 @@ pub fn end_from(work: &[u32], at: usize, i: usize) -> u32
 }
 
 // Where corner i stands.
-pub fn place_from(work: &[u32], vo: usize, nv: usize, at: usize, i: usize) -> Point
-    requires { Placed work.now vo nv × All (Below nv) (corners_from work.now at) × CornerOf work.now at i }
-    ensures { (result ≡ place_of (vertices_at work.now vo nv) (get_or (corners_from work.now at) i 0)) × InGrid result }
+pub fn place_from(work: &[u32], vertices: Run, at: usize, i: usize) -> Point
+    requires { Placed work.now vertices.at vertices.n × All (Below vertices.n) (corners_from work.now at) × CornerOf work.now at i }
+    ensures { (result ≡ place_of (vertices_at work.now vertices.at vertices.n) (get_or (corners_from work.now at) i 0)) × InGrid result }
 {
-    place_at(work, vo, nv, corner_from(work, at, i) as usize)
+    place_at(work, vertices, corner_from(work, at, i) as usize)
 }
 
 // All its corners.

@@ -1,6 +1,7 @@
 // The records of the work buffer: how many words each has, and how one is read and written.
 #![tactic(auto)]
 
+pub mod run; // where records of one kind stand, and how many there are
 pub mod vertex; // a vertex with its mark
 pub mod polygon; // a polygon, and a list of them
 pub mod corner; // a polygon's corners, read in place

@@ -10,6 +10,7 @@ ghost use Rattle.laws.specs.Merge.{Below};
 ghost use Rattle.records.specs.Layout.{polygon_size, most_corners, polygon_in, polygons_at, polygon_records, vertices_at, Placed};
 ghost use Rattle.records.specs.Values.{corners_of, poly_words, to_poly, Loaded, On, Stands, SwapReady};
 
+use crate::run::Run;
 use crate::vertex::place_at;
 use plane::ring::next;
 use rules::Point;
@@ -67,20 +68,20 @@ pub fn store_poly(work: &mut [u32], at: usize, p: Poly)
     work[at + SPARE_AT..at + POLYGON_SIZE].fill(0);
 }
 
-// Polygon i of the np at o.
-pub fn load_at(work: &[u32], o: usize, np: usize, i: usize) -> Poly
-    requires { (o + np * polygon_size ≤ length work.now) × (i < np) × (length (polygon_at (polygons_at work.now o np) i).corners ≤ most_corners) }
-    ensures { Loaded (polygon_at (polygons_at work.now o np) i) result }
+// Polygon i.
+pub fn load_at(work: &[u32], polygons: Run, i: usize) -> Poly
+    requires { (polygons.at + polygons.n * polygon_size ≤ length work.now) × (i < polygons.n) × (length (polygon_at (polygons_at work.now polygons.at polygons.n) i).corners ≤ most_corners) }
+    ensures { Loaded (polygon_at (polygons_at work.now polygons.at polygons.n) i) result }
 {
-    load_poly(work, o + i * POLYGON_SIZE)
+    load_poly(work, polygons.at + i * POLYGON_SIZE)
 }
 
-// Polygon i of the np at o is written anew.
-pub fn store_at(work: &mut [u32], o: usize, np: usize, i: usize, p: Poly)
-    requires { (o + np * polygon_size ≤ length work.old) × (i < np) × (p.n ≤ most_corners) }
-    ensures { work.new ≡ splice work.old (o + i * polygon_size) (poly_words p) }
+// Polygon i is written anew.
+pub fn store_at(work: &mut [u32], polygons: Run, i: usize, p: Poly)
+    requires { (polygons.at + polygons.n * polygon_size ≤ length work.old) × (i < polygons.n) × (p.n ≤ most_corners) }
+    ensures { work.new ≡ splice work.old (polygons.at + i * polygon_size) (poly_words p) }
 {
-    store_poly(work, o + i * POLYGON_SIZE, p);
+    store_poly(work, polygons.at + i * POLYGON_SIZE, p);
 }
 
 // Corner i: where side i starts.
@@ -100,11 +101,11 @@ pub fn side_end(p: Poly, i: usize) -> u32
 }
 
 // Where corner i of p stands.
-pub fn place_of(work: &[u32], vo: usize, nv: usize, p: Poly, i: usize) -> Point
-    requires { Placed work.now vo nv × All (Below nv) (corners_of p) × On p i }
-    ensures { (result ≡ place_of (vertices_at work.now vo nv) (get_or (corners_of p) i 0)) × InGrid result }
+pub fn place_of(work: &[u32], vertices: Run, p: Poly, i: usize) -> Point
+    requires { Placed work.now vertices.at vertices.n × All (Below vertices.n) (corners_of p) × On p i }
+    ensures { (result ≡ place_of (vertices_at work.now vertices.at vertices.n) (get_or (corners_of p) i 0)) × InGrid result }
 {
-    place_at(work, vo, nv, corner(p, i) as usize)
+    place_at(work, vertices, corner(p, i) as usize)
 }
 
 // No polygon.
@@ -119,12 +120,12 @@ fn blank() -> Poly
     }
 }
 
-// Of the np polygons at o, the last takes the place of polygon i, and a blank one that of the last.
-pub fn swap_remove(work: &mut [u32], o: usize, np: usize, i: usize)
-    requires { SwapReady work.old o np i }
-    ensures { work.new ≡ splice work.old o (polygon_records (swap_remove no_polygon (polygons_at work.old o np) i ++ (no_polygon ∷ []))) }
+// Of the polygons, the last takes the place of polygon i, and a blank one that of the last.
+pub fn swap_remove(work: &mut [u32], polygons: Run, i: usize)
+    requires { SwapReady work.old polygons.at polygons.n i }
+    ensures { work.new ≡ splice work.old polygons.at (polygon_records (swap_remove no_polygon (polygons_at work.old polygons.at polygons.n) i ++ (no_polygon ∷ []))) }
 {
-    let last = load_at(work, o, np, np - 1);
-    store_at(work, o, np, i, last);
-    store_at(work, o, np, np - 1, blank());
+    let last = load_at(work, polygons, polygons.n - 1);
+    store_at(work, polygons, i, last);
+    store_at(work, polygons, polygons.n - 1, blank());
 }

@@ -5,6 +5,7 @@ ghost use Rattle.rules.specs.Plane.{InGrid};
 ghost use Rattle.rules.specs.Mesh.{place_of};
 ghost use Rattle.records.specs.Layout.{vertex_size, vertex_words, vertices_at, Placed};
 
+use crate::run::Run;
 use rules::{Point, Vertex};
 
 pub const VERTEX_SIZE: usize = 5;
@@ -21,12 +22,12 @@ pub fn store_vertex(work: &mut [u32], at: usize, v: Vertex)
     work[at..at + VERTEX_SIZE].copy_from_slice(&words);
 }
 
-// Where vertex k of the nv at vo stands.
-pub fn place_at(work: &[u32], vo: usize, nv: usize, k: usize) -> Point
-    requires { Placed work.now vo nv × (k < nv) }
-    ensures { (result ≡ place_of (vertices_at work.now vo nv) k) × InGrid result }
+// Where vertex k stands.
+pub fn place_at(work: &[u32], vertices: Run, k: usize) -> Point
+    requires { Placed work.now vertices.at vertices.n × (k < vertices.n) }
+    ensures { (result ≡ place_of (vertices_at work.now vertices.at vertices.n) k) × InGrid result }
 {
-    let at = vo + k * VERTEX_SIZE;
+    let at = vertices.at + k * VERTEX_SIZE;
     Point {
         x: work[at] as u16,
         z: work[at + 2] as u16,

@@ -11,6 +11,7 @@ use crate::remove::remove_vertex;
 use crate::site::Site;
 use holes::test::can_remove_vertex;
 use records::counts::Counts;
+use records::run::Run;
 use records::vertex::{MARK_AT, VERTEX_SIZE};
 use rules::Refusal;
 
@@ -35,7 +36,15 @@ fn goes(work: &mut [u32], s: Site, n: Counts, i: usize) -> bool
     ensures { Tested (Rules.goes i (mesh_at work.old s n)) work.old result work.new }
 {
     if work[s.vertices + i * VERTEX_SIZE + MARK_AT] == 1 {
-        return can_remove_vertex(work, s.polygons, n.polygons, s.scratch, i as u32);
+        return can_remove_vertex(
+            work,
+            Run {
+                at: s.polygons,
+                n: n.polygons,
+            },
+            s.scratch,
+            i as u32,
+        );
     }
     false
 }

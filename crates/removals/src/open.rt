@@ -8,6 +8,7 @@ use holes::clear::clear_polygons;
 use holes::vertices::remove_record;
 use records::counts::Counts;
 use records::point::POINT_SIZE;
+use records::run::Run;
 use records::side::SIDE_SIZE;
 use trails::sides::collect_sides;
 use trails::walk::walk_sides;
@@ -24,9 +25,31 @@ pub fn open_hole(work: &mut [u32], s: Site, n: Counts, rem: u32) -> Hole
     requires { RemoveReady work.old s n most_corners rem }
     ensures { OpenedTo work.old work.new s n rem result }
 {
-    let sides = collect_sides(work, s.polygons, n.polygons, s.scratch, rem);
-    let left = clear_polygons(work, s.polygons, n.polygons, rem);
-    remove_record(work, s.vertices, n.vertices, rem as usize);
+    let sides = collect_sides(
+        work,
+        Run {
+            at: s.polygons,
+            n: n.polygons,
+        },
+        s.scratch,
+        rem,
+    );
+    let left = clear_polygons(
+        work,
+        Run {
+            at: s.polygons,
+            n: n.polygons,
+        },
+        rem,
+    );
+    remove_record(
+        work,
+        Run {
+            at: s.vertices,
+            n: n.vertices,
+        },
+        rem as usize,
+    );
     let e = s.scratch + sides * SIDE_SIZE + (sides + sides + 1) * POINT_SIZE;
     let walked = walk_sides(work, s.scratch, e, sides);
     let points = close_hole(work, s.scratch, walked.points);

@@ -12,6 +12,7 @@ use holes::fill::fill_hole;
 use records::counts::Counts;
 use records::point::POINT_SIZE;
 use records::polygon::POLYGON_SIZE;
+use records::run::Run;
 use records::vertex::VERTEX_SIZE;
 use words::fill::fill;
 
@@ -55,8 +56,10 @@ pub fn remove_vertex(work: &mut [u32], s: Site, n: Counts, rem: u32, nvp: usize)
     let far = n.polygons.max(h.left + (h.points - 2));
     match fill_hole(
         work,
-        s.vertices,
-        n.vertices - 1,
+        Run {
+            at: s.vertices,
+            n: n.vertices - 1,
+        },
         at,
         s.scratch,
         h.points,

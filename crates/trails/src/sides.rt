@@ -10,15 +10,16 @@ ghost use Rattle.trails.specs.Sides.{Laid, CollectReady, Collected};
 use plane::ring::prev;
 use records::corner::corners_from;
 use records::polygon::{POLYGON_SIZE, Poly, corner, load_at};
+use records::run::Run;
 use records::side::{SIDE_SIZE, store_side};
 use rules::Side;
 
-// Whether polygon i of the np at o holds the vertex.
-pub fn is_held(work: &[u32], o: usize, np: usize, i: usize, rem: u32) -> bool
-    requires { (o + np * polygon_size ≤ length work.now) × (i < np) × Small (polygon_at (polygons_at work.now o np) i) }
-    ensures { result ≡ ltb 0 (holds rem (polygon_at (polygons_at work.now o np) i)) }
+// Whether polygon i holds the vertex.
+pub fn is_held(work: &[u32], polygons: Run, i: usize, rem: u32) -> bool
+    requires { (polygons.at + polygons.n * polygon_size ≤ length work.now) × (i < polygons.n) × Small (polygon_at (polygons_at work.now polygons.at polygons.n) i) }
+    ensures { result ≡ ltb 0 (holds rem (polygon_at (polygons_at work.now polygons.at polygons.n) i)) }
 {
-    corners_from(work, o + i * POLYGON_SIZE).contains(&rem)
+    corners_from(work, polygons.at + i * POLYGON_SIZE).contains(&rem)
 }
 
 // A vertex's number once the vertex `rem` has gone.
@@ -60,20 +61,20 @@ fn push_sides(work: &mut [u32], at: usize, p: Poly, rem: u32) -> usize
     k
 }
 
-// The untouched sides of the polygons that hold the vertex, of the np at o, go to q, in the order in which those polygons
+// The untouched sides of the polygons that hold the vertex go to q, in the order in which those polygons
 // go: m polygons are left, and polygon k stands at place i of them. No polygon is moved. The result says how many sides
 // there are.
-pub fn collect_sides(work: &mut [u32], o: usize, np: usize, q: usize, rem: u32) -> usize
-    requires { CollectReady work.old o np q rem }
-    ensures { Collected work.old work.new o np q rem result }
+pub fn collect_sides(work: &mut [u32], polygons: Run, q: usize, rem: u32) -> usize
+    requires { CollectReady work.old polygons.at polygons.n q rem }
+    ensures { Collected work.old work.new polygons.at polygons.n q rem result }
 {
     let mut n = 0;
-    let mut m = np;
+    let mut m = polygons.n;
     let mut i = 0;
     let mut k = 0;
     while i < m {
-        if is_held(work, o, np, k, rem) {
-            let p = load_at(work, o, np, k);
+        if is_held(work, polygons, k, rem) {
+            let p = load_at(work, polygons, k);
             n += push_sides(work, q + n * SIDE_SIZE, p, rem);
             m -= 1;
             k = m;

@@ -10,5 +10,5 @@ returns c =
     let p = c.push_all-met in
     let g = c.args in
     let e : g.q + p.result.n - g.q ≡ p.result.n = omega arith in
-    few_tested g.o g.np g.q g.rem (g.q + p.result.n - g.q) c.requires p.ensures e c.met_once-few.ensures
+    few_tested g.polygons.at g.polygons.n g.q g.rem (g.q + p.result.n - g.q) c.requires p.ensures e c.met_once-few.ensures
     c.fill.ensures

@@ -4,4 +4,4 @@ use Rattle.holes.proofs.Pushes.{Looking}
 use Rattle.holes.proofs.test.push_all.Given as goal
 
 abbrev pub invariant-loop-i : goal.invariant-loop-i
-invariant-loop-i l = Looking l.initial.work l.o l.np l.q l.rem l.work l.k l.i
+invariant-loop-i l = Looking l.initial.work l.polygons.at l.polygons.n l.q l.rem l.work l.k l.i

@@ -7,5 +7,5 @@ use Rattle.records.specs.Values.{corners_of}
 use Rattle.links.proofs.portals.mark_polygon.Given as goal
 
 abbrev pub invariant-loop-j : goal.invariant-loop-j
-invariant-loop-j l = Filled l.initial.work l.at (portal_at (vertices_at l.initial.work l.g.vo l.g.nv) l.g.grid.w l.g.grid.h (corners_of l.p) (view l.initial.work l.at l.p.n))
+invariant-loop-j l = Filled l.initial.work l.at (portal_at (vertices_at l.initial.work l.g.vertices.at l.g.vertices.n) l.g.grid.w l.g.grid.h (corners_of l.p) (view l.initial.work l.at l.p.n))
     l.p.n l.work l.j

@@ -6,6 +6,6 @@ use Rattle.links.proofs.sides.record_sides.Goals as goal
 
 pub returns : goal.returns
 returns c =
-    let e = length_polygons c.args.work.now c.args.o c.args.np in
-    rw (records_all (polygons_at c.args.work.now c.args.o c.args.np) c.args.np (edges_at c.args.work.now c.args.t.edges c.args.ne) e)
+    let e = length_polygons c.args.work.now c.args.polygons.at c.args.polygons.n in
+    rw (records_all (polygons_at c.args.work.now c.args.polygons.at c.args.polygons.n) c.args.polygons.n (edges_at c.args.work.now c.args.t.edges c.args.ne) e)
     c.take_sides.ensures

@@ -6,6 +6,6 @@ use Rattle.outputs.proofs.tags.copy_tags.Given as goal
 
 abbrev pub invariant-loop-i : goal.invariant-loop-i
 invariant-loop-i l = record {
-  regions : Filled l.initial.regions 0 (λ j. (polygon_at (polygons_at l.work l.at.o l.at.np) j).region) l.at.np l.regions l.i;
-  codes : Filled l.initial.codes 0 (λ j. (polygon_at (polygons_at l.work l.at.o l.at.np) j).code) l.at.np l.codes l.i;
+  regions : Filled l.initial.regions 0 (λ j. (polygon_at (polygons_at l.work l.at.polygons.at l.at.polygons.n) j).region) l.at.polygons.n l.regions l.i;
+  codes : Filled l.initial.codes 0 (λ j. (polygon_at (polygons_at l.work l.at.polygons.at l.at.polygons.n) j).code) l.at.polygons.n l.codes l.i;
 }

@@ -3,4 +3,4 @@ use Rattle.outputs.proofs.Copies.{VerticesCopied}
 use Rattle.outputs.proofs.vertices.copy_vertices.Given as goal
 
 abbrev pub invariant-loop-k : goal.invariant-loop-k
-invariant-loop-k l = VerticesCopied l.work l.at.vo l.at.nv l.initial.out l.out l.k
+invariant-loop-k l = VerticesCopied l.work l.at.vertices.at l.at.vertices.n l.initial.out l.out l.k

@@ -4,4 +4,4 @@ use Rattle.polys.proofs.Greatest.{Searching}
 use Rattle.polys.proofs.best.best_of_row.Given as goal
 
 abbrev pub invariant-loop-b : goal.invariant-loop-b
-invariant-loop-b l = Searching (vertices_at l.work l.f.vo l.f.nv) l.f.nvp (polygons_at l.work l.f.o l.f.np) l.a l.initial.m l.f.np l.m l.b
+invariant-loop-b l = Searching (vertices_at l.work l.f.vertices.at l.f.vertices.n) l.f.nvp (polygons_at l.work l.f.polygons.at l.f.polygons.n) l.a l.initial.m l.f.polygons.n l.m l.b

@@ -5,5 +5,5 @@ use Rattle.records.specs.Layout.{vertices_at, polygons_at}
 use Rattle.polys.proofs.best.best_pair.Given as goal
 
 abbrev pub invariant-loop-a : goal.invariant-loop-a
-invariant-loop-a l = Doing (best_of_row (vertices_at l.work l.f.vo l.f.nv) l.f.nvp (polygons_at l.work l.f.o l.f.np)) (best_pair (vertices_at l.work l.f.vo l.f.nv)
-    l.f.nvp (polygons_at l.work l.f.o l.f.np)) l.f.np l.m l.a
+invariant-loop-a l = Doing (best_of_row (vertices_at l.work l.f.vertices.at l.f.vertices.n) l.f.nvp (polygons_at l.work l.f.polygons.at l.f.polygons.n)) (best_pair (vertices_at l.work l.f.vertices.at l.f.vertices.n)
+    l.f.nvp (polygons_at l.work l.f.polygons.at l.f.polygons.n)) l.f.polygons.n l.m l.a

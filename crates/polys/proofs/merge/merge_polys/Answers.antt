@@ -4,4 +4,4 @@ use Rattle.polys.proofs.merge.merge_polys.Goals as goal
 
 pub returns-then-nvp-le3 : goal.returns-then-nvp-le3
 returns-then-nvp-le3 c =
-    merged_none (record { vo = c.args.vo; nv = c.args.nv; o = c.args.o; np = c.args.np; nvp = c.args.nvp; ro = c.args.ro }) c.requires.rows c.requires.tidy c.if-nvp-le3.true c.fill.ensures
+    merged_none (record { vertices = c.args.vertices; polygons = c.args.polygons; nvp = c.args.nvp; rows = c.args.ro }) c.requires.rows c.requires.tidy c.if-nvp-le3.true c.fill.ensures

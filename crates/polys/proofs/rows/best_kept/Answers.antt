@@ -12,7 +12,7 @@ loop-r-init c = rows_begin _ c.args.f.nvp _ _ (length_polygons _ _ _) c.no_pair-
 pub loop-r-preserved : goal.loop-r-preserved
 loop-r-preserved c =
     let h = c.loop-r-test.true in
-    let n = length_polygons c.args.work.now c.args.f.o c.args.f.np in
+    let n = length_polygons c.args.work.now c.args.f.polygons.at c.args.f.polygons.n in
     doing_more c.loop-r.invariant h
     (c.greater-m.ensures ∙ row_read (c.requires.at _ (omega arith) h) _ (omega (arith, h, n)) c.row_at.ensures)
 

@@ -6,5 +6,5 @@ use Rattle.records.specs.Layout.{vertices_at, polygons_at}
 use Rattle.polys.proofs.rows.best_kept.Given as goal
 
 abbrev pub invariant-loop-r : goal.invariant-loop-r
-invariant-loop-r l = Doing (row_against (vertices_at l.work l.f.vo l.f.nv) l.f.nvp (polygons_at l.work l.f.o l.f.np)) (best_pair (vertices_at l.work l.f.vo l.f.nv)
-    l.f.nvp (polygons_at l.work l.f.o l.f.np)) l.f.np l.m l.r
+invariant-loop-r l = Doing (row_against (vertices_at l.work l.f.vertices.at l.f.vertices.n) l.f.nvp (polygons_at l.work l.f.polygons.at l.f.polygons.n)) (best_pair (vertices_at l.work l.f.vertices.at l.f.vertices.n)
+    l.f.nvp (polygons_at l.work l.f.polygons.at l.f.polygons.n)) l.f.polygons.n l.m l.r

@@ -34,15 +34,15 @@ shared_side-requires c =
 pub pair_of-requires : goal.pair_of-requires
 pair_of-requires c =
     let here : Some (c.in-Some.i, c.in-Some.j)
-    ≡ shared_side ((corners_from c.args.work.now (c.args.f.o + c.args.a * polygon_size)))
-    ((corners_from c.args.work.now (c.args.f.o + c.args.b * polygon_size))) = rw c.in-Some.is at c.shared_side.ensures in
+    ≡ shared_side ((corners_from c.args.work.now (c.args.f.polygons.at + c.args.a * polygon_size)))
+    ((corners_from c.args.work.now (c.args.f.polygons.at + c.args.b * polygon_size))) = rw c.in-Some.is at c.shared_side.ensures in
     joint_of c.requires.0 _ _ _ _ c.requires.1 c.requires.2 (here)
 
 pub returns-in-Some : goal.returns-in-Some
 returns-in-Some c =
     let here : Some (c.in-Some.i, c.in-Some.j)
-    ≡ shared_side ((corners_from c.args.work.now (c.args.f.o + c.args.a * polygon_size)))
-    ((corners_from c.args.work.now (c.args.f.o + c.args.b * polygon_size))) = rw c.in-Some.is at c.shared_side.ensures in
+    ≡ shared_side ((corners_from c.args.work.now (c.args.f.polygons.at + c.args.a * polygon_size)))
+    ((corners_from c.args.work.now (c.args.f.polygons.at + c.args.b * polygon_size))) = rw c.in-Some.is at c.shared_side.ensures in
     value_at_sides c.requires.0 _ _ c.requires.1 c.requires.2 c.count_from.ensures c.count_from-2.ensures _ _
     c.if-f-count_from.false (here) c.pair_of.ensures
 

@@ -9,4 +9,4 @@ load_poly-requires c = stands_at _ _ _ _ c.requires.0 c.requires.1 c.requires.2
 pub returns : goal.returns
 returns c =
     let g = c.args in
-    rw (polygon_at_lem g.work.now g.o g.np g.i (search rules)) c.load_poly.ensures
+    rw (polygon_at_lem g.work.now g.polygons.at g.polygons.n g.i (search rules)) c.load_poly.ensures

@@ -28,9 +28,9 @@ load_at-p-requires c =
 pub overflow_mul-n : goal.overflow_mul-n
 overflow_mul-n c =
     let seen : let g = c.args in
-    Loaded (polygon_at (polygons_at g.work.now g.o g.np) c.loop-i.k) c.load_at-p.result = loaded_now c.requires c.loop-i.invariant c.load_at-p.ensures in
+    Loaded (polygon_at (polygons_at g.work.now g.polygons.at g.polygons.n) c.loop-i.k) c.load_at-p.result = loaded_now c.requires c.loop-i.invariant c.load_at-p.ensures in
     let held : let g = c.args in
-    ltb 0 (holds g.rem (polygon_at (polygons_at g.work.now g.o g.np) c.loop-i.k)) ≡ true = held_now c.requires c.loop-i.invariant c.is_held.ensures ∙
+    ltb 0 (holds g.rem (polygon_at (polygons_at g.work.now g.polygons.at g.polygons.n) c.loop-i.k)) ≡ true = held_now c.requires c.loop-i.invariant c.is_held.ensures ∙
     c.if-is_held.true in
     let room_at : let at = c.loop-i in let g = c.args in
     g.q + at.n * side_size + length (untouched g.rem (polygon_of c.load_at-p.result)) * side_size ≤ length at.work =
@@ -40,9 +40,9 @@ overflow_mul-n c =
 pub overflow_add-q : goal.overflow_add-q
 overflow_add-q c =
     let seen : let g = c.args in
-    Loaded (polygon_at (polygons_at g.work.now g.o g.np) c.loop-i.k) c.load_at-p.result = loaded_now c.requires c.loop-i.invariant c.load_at-p.ensures in
+    Loaded (polygon_at (polygons_at g.work.now g.polygons.at g.polygons.n) c.loop-i.k) c.load_at-p.result = loaded_now c.requires c.loop-i.invariant c.load_at-p.ensures in
     let held : let g = c.args in
-    ltb 0 (holds g.rem (polygon_at (polygons_at g.work.now g.o g.np) c.loop-i.k)) ≡ true = held_now c.requires c.loop-i.invariant c.is_held.ensures ∙
+    ltb 0 (holds g.rem (polygon_at (polygons_at g.work.now g.polygons.at g.polygons.n) c.loop-i.k)) ≡ true = held_now c.requires c.loop-i.invariant c.is_held.ensures ∙
     c.if-is_held.true in
     let room_at : let at = c.loop-i in let g = c.args in
     g.q + at.n * side_size + length (untouched g.rem (polygon_of c.load_at-p.result)) * side_size ≤ length at.work =
@@ -52,9 +52,9 @@ overflow_add-q c =
 pub push_sides-n-requires : goal.push_sides-n-requires
 push_sides-n-requires c =
     let seen : let g = c.args in
-    Loaded (polygon_at (polygons_at g.work.now g.o g.np) c.loop-i.k) c.load_at-p.result = loaded_now c.requires c.loop-i.invariant c.load_at-p.ensures in
+    Loaded (polygon_at (polygons_at g.work.now g.polygons.at g.polygons.n) c.loop-i.k) c.load_at-p.result = loaded_now c.requires c.loop-i.invariant c.load_at-p.ensures in
     let held : let g = c.args in
-    ltb 0 (holds g.rem (polygon_at (polygons_at g.work.now g.o g.np) c.loop-i.k)) ≡ true = held_now c.requires c.loop-i.invariant c.is_held.ensures ∙
+    ltb 0 (holds g.rem (polygon_at (polygons_at g.work.now g.polygons.at g.polygons.n) c.loop-i.k)) ≡ true = held_now c.requires c.loop-i.invariant c.is_held.ensures ∙
     c.if-is_held.true in
     let room_at : let at = c.loop-i in let g = c.args in
     g.q + at.n * side_size + length (untouched g.rem (polygon_of c.load_at-p.result)) * side_size ≤ length at.work =
@@ -64,9 +64,9 @@ push_sides-n-requires c =
 pub overflow_add-n : goal.overflow_add-n
 overflow_add-n c =
     let seen : let g = c.args in
-    Loaded (polygon_at (polygons_at g.work.now g.o g.np) c.loop-i.k) c.load_at-p.result = loaded_now c.requires c.loop-i.invariant c.load_at-p.ensures in
+    Loaded (polygon_at (polygons_at g.work.now g.polygons.at g.polygons.n) c.loop-i.k) c.load_at-p.result = loaded_now c.requires c.loop-i.invariant c.load_at-p.ensures in
     let held : let g = c.args in
-    ltb 0 (holds g.rem (polygon_at (polygons_at g.work.now g.o g.np) c.loop-i.k)) ≡ true = held_now c.requires c.loop-i.invariant c.is_held.ensures ∙
+    ltb 0 (holds g.rem (polygon_at (polygons_at g.work.now g.polygons.at g.polygons.n) c.loop-i.k)) ≡ true = held_now c.requires c.loop-i.invariant c.is_held.ensures ∙
     c.if-is_held.true in
     let room_at : let at = c.loop-i in let g = c.args in
     g.q + at.n * side_size + length (untouched g.rem (polygon_of c.load_at-p.result)) * side_size ≤ length at.work =
@@ -76,9 +76,9 @@ overflow_add-n c =
 pub loop-i-preserved-then-is_held : goal.loop-i-preserved-then-is_held
 loop-i-preserved-then-is_held c =
     let seen : let g = c.args in
-    Loaded (polygon_at (polygons_at g.work.now g.o g.np) c.loop-i.k) c.load_at-p.result = loaded_now c.requires c.loop-i.invariant c.load_at-p.ensures in
+    Loaded (polygon_at (polygons_at g.work.now g.polygons.at g.polygons.n) c.loop-i.k) c.load_at-p.result = loaded_now c.requires c.loop-i.invariant c.load_at-p.ensures in
     let held : let g = c.args in
-    ltb 0 (holds g.rem (polygon_at (polygons_at g.work.now g.o g.np) c.loop-i.k)) ≡ true = held_now c.requires c.loop-i.invariant c.is_held.ensures ∙
+    ltb 0 (holds g.rem (polygon_at (polygons_at g.work.now g.polygons.at g.polygons.n) c.loop-i.k)) ≡ true = held_now c.requires c.loop-i.invariant c.is_held.ensures ∙
     c.if-is_held.true in
     collecting_more c.loop-i.invariant (search rules) (seen) (held) c.push_sides-n.ensures c.push_sides-n.auto.work
 

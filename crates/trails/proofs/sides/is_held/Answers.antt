@@ -10,4 +10,4 @@ corners_from-requires c = stands_at _ _ _ _ c.requires.0 c.requires.1 c.requires
 pub returns : goal.returns
 returns c =
     c.contains.ensures.value
-    ∙ rw c.corners_from.ensures (any_held c.args.work.now c.args.o c.args.np c.args.i c.requires.0 c.requires.1 c.args.rem)
+    ∙ rw c.corners_from.ensures (any_held c.args.work.now c.args.polygons.at c.args.polygons.n c.args.i c.requires.0 c.requires.1 c.args.rem)
