@@ -21,7 +21,7 @@ use Rattle.rules.specs.MendCall.{mend_reply_of, scratch_wiped, mend_exit_of, men
 use Rattle.rules.specs.declared.Mended.{Mended}
 use Rattle.rules.specs.declared.MendRefusal.{MendRefusal}
 use Rattle.rules.specs.declared.MendRefusal.TheVariants.{NotWhole, LengthsDisagree, ShortScratch, ListFull}
-use Rattle.checks.specs.Sums.{sum_all, part_of}
+use Rattle.checks.specs.Sums.{sum_all}
 use Rattle.mend.specs.declared.contours.Tally.{Tally}
 use Rattle.mend.specs.Contours.{CountReady, Counted, AllMended}
 use Rattle.mend.specs.Call.{lent_of, MendReady, WriteReady, Written, checked_outcome, Ended}
@@ -32,7 +32,7 @@ pub too_many : (cs : List ℕ) (n : ℕ) → 65535 < length cs → (leb (length 
 too_many cs n h = rw (lt-leb (length cs) 65535 h) refl
 
 pub so_many : (cs : List ℕ) (n : ℕ) {r : ℕ} → length cs ≤ 65535 → r ≡ sum_all cs → eqb r n ≡ (leb (length cs) 65535 && eqb (sum_over (λ k. k) cs) n)
-unfolding sum_all part_of
+unfolding sum_all
 so_many cs n h e = rw (le-leb (length cs) 65535 h, e) refl
 
 -- ---- what is written
