@@ -5,9 +5,9 @@ ghost use Rattle.std.specs.Prelude.{◌≡◌, ◌<◌, ◌≤◌, IfOk, length,
 ghost use Rattle.std.specs.Io.KnownBytes.{Consumes, IsAtEnd};
 ghost use Rattle.std.specs.Io.{ReadsAtMost};
 
+use anyhow::{Context, Result};
 use std::io;
 use std::io::Read;
-use anyhow::{Context, Result};
 
 // Reads until `buf` is full or the reader's bytes have ended. The answer is how many bytes were read; they stand at the beginning of `buf`.
 pub fn read_full<R: Read>(from: &mut R, buf: &mut [u8]) -> io::Result<usize>
