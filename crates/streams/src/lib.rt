@@ -5,9 +5,9 @@ ghost use Rattle.std.specs.Prelude.{◌≡◌, ◌<◌, IfOk, length, take};
 ghost use Rattle.std.specs.Io.KnownBytes.{Consumes, IsAtEnd};
 ghost use Rattle.std.specs.Io.{ReadsAtMost};
 
+use anyhow::{Context, Result};
 use std::io;
 use std::io::Read;
-use anyhow::{Context, Result};
 
 // Reads until `buf` is full or the reader's bytes have ended. The answer is how many bytes were read; they stand at the beginning of `buf`.
 pub fn read_full<R: Read>(from: &mut R, buf: &mut [u8]) -> io::Result<usize>
@@ -38,5 +38,6 @@ pub fn answer_input<F: FnOnce(&[u8], &mut [u8; 65536]) -> usize>(
     let n = read_full(&mut rt.stdin(), &mut input).context("standard input")?;
     let mut out = [0u8; 65536];
     let m = answer(&input[..n], &mut out);
-    rt.write_all(&out[..m.min(65536)]).context("standard output")
+    rt.write_all(&out[..m.min(65536)])
+        .context("standard output")
 }
