@@ -1,8 +1,8 @@
 -- The order of the refusals: what each search finds is what the rules' order asks for, and the buffers that a search doesn't see don't matter to it.
 -- Assumes nothing.
-use Rattle.std.specs.Prelude.{Option, Some, None, Result, Ok, Err, ⊤, IsErrAnd}
+use Rattle.std.specs.Prelude.{Option, Some, None, Result, Ok, Err, ⊤, IsErrAnd, MatchResult}
 use Rattle.std.proofs.lemmas.Result.{err_from_is_err_and}
-use mathlib.Core.Path.{◌≡◌, refl, sym, ◌∙◌, ap}
+use mathlib.Core.Path.{◌≡◌, refl, sym, ◌∙◌, ap, subst}
 use mathlib.Core.Bool.{Bool, true, false, not, cond}
 use mathlib.Core.Logic.{◌≢◌}
 use mathlib.Core.List.{List}
@@ -131,6 +131,19 @@ unsound c f e = rw (e, verdict) refl
 -- what a `?` passes on, as another error
 pub passed_on : {A E : Type 0} {r : Result A E} {x : E} → IsErrAnd r (λ e. e ≡ x) → r ≡ Err x
 passed_on {r} i = let x = err_from_is_err_and r i in x.1 ∙ ap Err x.2
+
+-- what `map_err` makes of an answer: it passes as it did, and its refusal bears another name
+module _ {D E : Type 0} (f : E → D) where
+  abbrev Mapped : Result ⊤ E → Result ⊤ D → Type 0
+  Mapped r q = MatchResult r (λ x. q ≡ Ok x) (λ e. IsErrAnd q (λ d. d ≡ f e))
+
+  pub mapped_ok : (r : Result ⊤ E) {q : Result ⊤ D} → Mapped r q → q ≡ Ok tt → r ≡ Ok tt
+  mapped_ok (Ok x) m k = refl
+  mapped_ok (Err e) m k = absurd (subst (λ (s : Result ⊤ D). IsErrAnd s (λ d. d ≡ f e)) k m)
+
+  pub mapped_err : (r : Result ⊤ E) {q : Result ⊤ D} {d : D} → Mapped r q → q ≡ Err d → (e : E) × (r ≡ Err e) × (d ≡ f e)
+  mapped_err (Ok x) m k = let z : ◌≡◌ {A = ℕ} 0 1 = cc in absurd (omega arith)
+  mapped_err (Err e) m k = (e, refl, subst (λ (s : Result ⊤ D). IsErrAnd s (λ d. d ≡ f e)) k m)
 
 -- a sound mesh may be measured
 pub mesh_ready : (nvp : ℕ) (vs ps ls : List ℕ) → Consistent (handed_in nvp vs ps ls) → MeshReady nvp (length ps / nvp) (length vs / vertex_stride) vs ps

@@ -29,16 +29,27 @@ fn links_sound(mesh: &Mesh<'_>, np: usize) -> Result<(), Fault>
     }
 }
 
-// 41 and 42, of a mesh that has passed 40.
+// 41 and 42, of a mesh that has passed 40. 42 is looked for without the vertices.
 fn rows_sound(mesh: &Mesh<'_>) -> Result<(), Fault>
     requires { GoodBuffers (handed mesh.now) }
     ensures { result ≡ (let m = handed mesh.now in
         or_fault BadCorners (first_fault (corners_hold m) (polygon_count m)) (or_fault BadLinks (first_fault (links_hold m) (polygon_count m)) (Ok tt))) }
 {
     let np = mesh.polygons.len() / mesh.nvp;
-    match first_bad_corners(mesh, mesh.vertices.len() / VERTEX_STRIDE, np) {
+    match first_bad_corners(
+        mesh.nvp,
+        mesh.vertices.len() / VERTEX_STRIDE,
+        np,
+        mesh.polygons,
+    ) {
         Some(i) => Err(Fault::BadCorners(i as u64)),
-        None => links_sound(mesh, np),
+        None => links_sound(
+            &Mesh {
+                vertices: &[],
+                ..*mesh
+            },
+            np,
+        ),
     }
 }
 
@@ -100,7 +111,7 @@ pub fn check_mesh(
 ) -> Result<(), Objection>
     ensures { result ≡ verdict (claim_in nvp w h border claim vertices.now polygons.now links.now) }
 {
-    soundness_of(nvp, vertices, polygons, links)?;
+    soundness_of(nvp, vertices, polygons, links).map_err(Objection::Unsound)?;
     let mesh = Mesh {
         nvp: nvp as usize,
         vertices,

@@ -3,7 +3,6 @@ ghost use Rattle.std.specs.Prelude.{◌≡◌, ◌*◌, ◌≤◌, ltb, length, 
 ghost use Rattle.rules.specs.Handed.{all_of, first_fault};
 ghost use Rattle.checker.specs.Steps.{row_holds, row_at};
 
-use crate::mesh::Mesh;
 use stored::corners::{UNUSED, count_corners};
 
 // Whether the first n words of a row are vertices, of which there are nv.
@@ -26,12 +25,12 @@ fn row_holds(row: &[u16], nv: usize) -> bool
 }
 
 // The first of np polygons that doesn't.
-pub fn first_bad_corners(mesh: &Mesh<'_>, nv: usize, np: usize) -> Option<usize>
-    requires { np * mesh.now.nvp ≤ length mesh.now.polygons.now }
-    ensures { result ≡ first_fault (λ i. row_holds nv (row_at mesh.now.nvp mesh.now.polygons.now i)) np }
+pub fn first_bad_corners(nvp: usize, nv: usize, np: usize, polygons: &[u16]) -> Option<usize>
+    requires { np * nvp ≤ length polygons.now }
+    ensures { result ≡ first_fault (λ i. row_holds nv (row_at nvp polygons.now i)) np }
 {
     (0..np).find(|i| {
-        let from = i * mesh.nvp;
-        !row_holds(&mesh.polygons[from..from + mesh.nvp], nv)
+        let from = i * nvp;
+        !row_holds(&polygons[from..from + nvp], nv)
     })
 }

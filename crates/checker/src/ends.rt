@@ -2,14 +2,13 @@
 ghost use Rattle.std.specs.Prelude.{◌+◌, ◌*◌, ◌≤◌, length};
 ghost use Rattle.checker.specs.Steps.{RowEnds};
 
-use crate::mesh::Mesh;
 use stored::corners::count_corners;
 
 // Where the corners of polygon i end; they begin at i·nvp.
-pub fn corners_end(mesh: &Mesh<'_>, i: usize) -> usize
-    requires { i * mesh.now.nvp + mesh.now.nvp ≤ length mesh.now.polygons.now }
-    ensures { RowEnds mesh.now.nvp mesh.now.polygons.now i result }
+pub fn corners_end(nvp: usize, polygons: &[u16], i: usize) -> usize
+    requires { i * nvp + nvp ≤ length polygons.now }
+    ensures { RowEnds nvp polygons.now i result }
 {
-    let from = i * mesh.nvp;
-    from + count_corners(&mesh.polygons[from..from + mesh.nvp])
+    let from = i * nvp;
+    from + count_corners(&polygons[from..from + nvp])
 }

@@ -23,7 +23,7 @@ fn links_hold(mesh: &Mesh<'_>, np: usize, i: usize) -> bool
     ensures { result ≡ links_hold (linked mesh.now) i }
 {
     let from = i * mesh.nvp;
-    let to = corners_end(mesh, i);
+    let to = corners_end(mesh.nvp, mesh.polygons, i);
     sides_hold(mesh, np, i, &mesh.polygons[from..to], &mesh.links[from..to])
         && mesh.links[to..from + mesh.nvp]
             .iter()

@@ -70,7 +70,7 @@ fn portals_hold(mesh: &Mesh<'_>, grid: Grid, i: usize) -> bool
     ensures { result ≡ portals_hold (unclaimed mesh.now grid) i }
 {
     let from = i * mesh.nvp;
-    let to = corners_end(mesh, i);
+    let to = corners_end(mesh.nvp, mesh.polygons, i);
     sides_bear(
         mesh.vertices,
         grid,

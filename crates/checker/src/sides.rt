@@ -41,7 +41,7 @@ fn polygon_names_back(mesh: &Mesh<'_>, l: usize, a: u16, b: u16, i: u32) -> bool
         any_of (names_back (corners_at s l) (get_or s.links l []) a b i) 0 (length (corners_at s l))) }
 {
     let from = l * mesh.nvp;
-    let to = corners_end(mesh, l);
+    let to = corners_end(mesh.nvp, mesh.polygons, l);
     is_named_back(&mesh.polygons[from..to], &mesh.links[from..to], a, b, i)
 }
 

@@ -1,6 +1,6 @@
 -- The shapes of loops, each with the law of a turn, the law of its end, and what its turns keep.
 -- `over z op f i n`: `f i`, `f (i + 1)`, .. up to `f (n - 1)`, joined by op from the right, with z at the end. What a loop over i..n finds, sums or
--- collects is an instance: `over false or`, `over 0 ◌+◌`, `over [] ◌++◌`, `over Nothing or_else`.
+-- collects is an instance: `over false or`, `over 0 ◌+◌`, `over [] ◌++◌`, `over None or_else`.
 -- `each step i n s`: the state s after `step i`, `step (i + 1)`, .. up to `step (n - 1)`.
 -- `times n turn s`: the state s after n turns.
 -- Assumes nothing.

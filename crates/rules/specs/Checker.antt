@@ -62,7 +62,7 @@ verdict c = elim (soundness c.mesh) [
   | Ok _ ↦ sound_verdict c (first_fault (portals_hold c) (polygon_count c.mesh))
 ]
 
--- a verdict's number, 0 if it is accepted, and its second number
+-- an objection's number, and its second number
 unfoldable pub objection_number : Objection → ℕ
 objection_number (Unsound f) = fault_number f
 objection_number (BadPortals i) = 43
@@ -73,6 +73,7 @@ objection_second (Unsound f) = fault_second f
 objection_second (BadPortals i) = i
 objection_second BadArea = 0
 
+-- a verdict's number, 0 if it is accepted, and its second number
 unfoldable pub verdict_number : Result ⊤ Objection → ℕ
 verdict_number (Ok _) = 0
 verdict_number (Err o) = objection_number o

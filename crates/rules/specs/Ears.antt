@@ -64,11 +64,12 @@ key_end Loose n i = next (next (next i n) n) n
 unfoldable pub key_from : Kind → List Point → List ℕ → ℕ → ℕ
 key_from kind ps ws i = key_of (point_at ps ws i) (point_at ps ws (key_end kind (length ws) i))
 
--- "with the least key .., the lowest i on ties": i with key k, where it may be cut, against the best so far, if there is one, whose i is lower
+-- whether key k is below that of the best so far, or there is none so far
 unfoldable pub beats : ℕ → Option Ear → Bool
 beats k (Some e) = ltb k e.key
 beats k None = true
 
+-- "with the least key .., the lowest i on ties": i with key k, where it may be cut, against the best so far, if there is one, whose i is lower
 unfoldable pub better : Bool → ℕ → ℕ → Option Ear → Option Ear
 better ok k i e = cond (ok && beats k e) (Some (record { key = k; at = i })) e
 

@@ -4,7 +4,8 @@
 -- first n elements and `drop n l` the others; `reverse l` is l from its end to its start; `replicate n x` is n times x; `map f l` is f of each; `◌++◌` is
 -- one list behind another; `cond t a b` is a if t, and else b, and so is `elim t [ true ↦ a | false ↦ b ]`; `ltb`, `leb` and `eqb` test <, ≤ and =; `lt_z`
 -- and `le_z` do so for integers; `i ≢ j` says that i and j differ; `a - b` of naturals is 0 where b is the greater; `pos n` is n as an integer, `neg_ℤ` is the
--- same with the other sign, and `+ℤ`, `-ℤ`, `*ℤ` are of integers.
+-- same with the other sign, and `+ℤ`, `-ℤ`, `*ℤ` are of integers. `Option A` is a value of A, `Some x`, or nothing, `None`; `Result A E` is the answer
+-- `Ok x` of A, or the refusal `Err e` of E; `⊤` has one value, `tt`, so that `Ok tt` of a `Result ⊤ E` says no more than that nothing is refused.
 -- Of crate `mem`: `over z op f i n` is f i, f (i + 1), .. up to f (n - 1), joined by op, with z behind them; `each step i n s` is the state s after step i,
 -- step (i + 1), .. up to step (n - 1); `times turn n s` is s after n turns; `tab f n` is the list f 0, .., f (n - 1); `view w o n` are the n words of w from
 -- o on; `splice w o xs` is w with xs written from o on; `packed f l` are the words f of each of l, one after the other.

@@ -111,13 +111,14 @@ mend_reply_of shortScratch = Err ShortScratch
 mend_reply_of listFull = Err ListFull
 mend_reply_of (mends ms) = Ok (record { lost = length (lost_numbers ms); kept = kept_count ms })
 
--- a reply's three numbers
+-- a refusal's number
 unfoldable pub mend_refusal_number : MendRefusal → ℕ
 mend_refusal_number LengthsDisagree = 2
 mend_refusal_number NotWhole = 80
 mend_refusal_number ListFull = 81
 mend_refusal_number ShortScratch = 82
 
+-- a reply's three numbers
 unfoldable pub mend_words : Result Mended MendRefusal → List ℕ
 mend_words (Ok m) = 0 ∷ m.lost ∷ m.kept ∷ []
 mend_words (Err r) = mend_refusal_number r ∷ 0 ∷ 0 ∷ []

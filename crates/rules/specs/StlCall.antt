@@ -42,7 +42,7 @@ stl_left file bytes (Err r) = bytes
 unfoldable pub stl_exit : Handed → Scale → List ℕ → List ℕ
 stl_exit m s bytes = stl_left (mesh_file m s) bytes (stl_reply m s (length bytes))
 
--- the reply's number; its second number is the count of facets for 0, a fault's own, and else 0
+-- a refusal's number, and its second number: a fault's own, and else 0
 unfoldable pub stl_refusal_number : StlRefusal → ℕ
 stl_refusal_number (BadMesh f) = fault_number f
 stl_refusal_number BadScale = 70
@@ -53,6 +53,7 @@ stl_refusal_second (BadMesh f) = fault_second f
 stl_refusal_second BadScale = 0
 stl_refusal_second ShortFile = 0
 
+-- the reply's number; its second number is the count of facets for 0, a fault's own, and else 0
 unfoldable pub stl_number : Result ℕ StlRefusal → ℕ
 stl_number (Ok n) = 0
 stl_number (Err r) = stl_refusal_number r
@@ -91,7 +92,7 @@ unstl_left points words (Err r) = words
 unfoldable pub unstl_exit : List ℕ → List ℕ → List ℕ
 unstl_exit file words = unstl_left (point_words (facets_in file)) words (unstl_reply file (length words))
 
--- the reply's number and its second number: the count of facets for 0, the first byte that is not zero for 73, and else 0
+-- a refusal's number, and its second number: the first byte that is not zero for 73, and else 0
 unfoldable pub unstl_refusal_number : UnstlRefusal → ℕ
 unstl_refusal_number BadLength = 72
 unstl_refusal_number (NotZero i) = 73
@@ -102,6 +103,7 @@ unstl_refusal_second BadLength = 0
 unstl_refusal_second (NotZero i) = i
 unstl_refusal_second ShortPoints = 0
 
+-- the reply's number and its second number: the count of facets for 0, the first byte that is not zero for 73, and else 0
 unfoldable pub unstl_number : Result ℕ UnstlRefusal → ℕ
 unstl_number (Ok n) = 0
 unstl_number (Err r) = unstl_refusal_number r

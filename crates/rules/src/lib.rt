@@ -1,10 +1,6 @@
 // The by-value types that the rules and the code share. The rules themselves are in specs/.
 #![tactic(auto)]
 
-ghost use Rattle.std.specs.Prelude.{◌≡◌};
-ghost use Rattle.rules.specs.declared.Objection.TheVariants.{Unsound};
-ghost use Rattle.rules.specs.declared.StlRefusal.TheVariants.{BadMesh};
-
 // A place on the plane.
 #[derive(Clone, Copy, Debug, PartialEq, Eq)]
 pub struct Point {
@@ -179,15 +175,6 @@ pub enum Objection {
     BadArea,
 }
 
-// What is wrong with a mesh is what the checker objects to.
-impl From<Fault> for Objection {
-    ghost from_gives = { λ f o. o ≡ Unsound f };
-
-    fn from(fault: Fault) -> Objection {
-        Objection::Unsound(fault)
-    }
-}
-
 // Why no binary STL was written: what is wrong with the mesh (40 to 42); or 70, a cell size or height that is no length; or
 // 71, too few bytes lent.
 #[derive(Clone, Copy, Debug, PartialEq, Eq)]
@@ -195,15 +182,6 @@ pub enum StlRefusal {
     BadMesh(Fault),
     BadScale,
     ShortFile,
-}
-
-// What is wrong with a mesh is why it isn't written.
-impl From<Fault> for StlRefusal {
-    ghost from_gives = { λ f r. r ≡ BadMesh f };
-
-    fn from(fault: Fault) -> StlRefusal {
-        StlRefusal::BadMesh(fault)
-    }
 }
 
 // Why a binary STL was not taken: 72, a length that doesn't fit the count; or 73, with the first byte that is not zero where

@@ -63,7 +63,7 @@ pub fn write_stl(
     ensures bytes { file.new ≡ stl_exit (handed_in nvp vertices.now polygons.now links.now)
         (scale_in inches size height) file.old }
 {
-    soundness_of(nvp, vertices, polygons, links)?;
+    soundness_of(nvp, vertices, polygons, links).map_err(StlRefusal::BadMesh)?;
     let mesh = Mesh {
         nvp: nvp as usize,
         vertices,

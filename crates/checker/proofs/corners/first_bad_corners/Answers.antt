@@ -11,7 +11,7 @@ use Rattle.checker.proofs.corners.first_bad_corners.Goals as goal
 
 pub returns : goal.returns
 returns c =
-    let holds : ℕ → Bool = λ i. row_holds c.args.nv (row_at c.args.mesh.now.nvp c.args.mesh.now.polygons.now i) in
+    let holds : ℕ → Bool = λ i. row_holds c.args.nv (row_at c.args.nvp c.args.polygons.now i) in
     first_found holds c.args.np c.find.result
     (first_from_Range _ _ _ c.find.result (λ i. not (holds i) ≡ true) (λ i. not (holds i) ≡ false)
     c.find.ensures.ran (λ x q k. search (rules, tests)) (λ x q k. search (rules, tests)))

@@ -6,10 +6,10 @@ use Rattle.checker.proofs.Lent.{row_ends}
 use Rattle.checker.proofs.ends.corners_end.Goals as goal
 
 ends : (c : goal.After-count_corners) → let a = c.args in
-    RowEnds a.mesh.now.nvp a.mesh.now.polygons.now a.i (a.i * a.mesh.now.nvp + c.count_corners.result)
+    RowEnds a.nvp a.polygons.now a.i (a.i * a.nvp + c.count_corners.result)
 ends c =
-    let wide = c.args.i * c.args.mesh.now.nvp + c.args.mesh.now.nvp - c.args.i * c.args.mesh.now.nvp in
-    row_ends c.args.mesh.now.nvp c.args.mesh.now.polygons.now c.args.i wide c.count_corners.result (omega arith) c.requires c.count_corners.ensures
+    let wide = c.args.i * c.args.nvp + c.args.nvp - c.args.i * c.args.nvp in
+    row_ends c.args.nvp c.args.polygons.now c.args.i wide c.count_corners.result (omega arith) c.requires c.count_corners.ensures
 
 pub overflow_add-result : goal.overflow_add-result
 overflow_add-result c = record { fits = omega (arith, (ends c).within) }
