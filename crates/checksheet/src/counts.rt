@@ -26,7 +26,7 @@ pub fn mesh_cells(line: &[u8]) -> Option<MeshLine>
 {
     let last = last_cell(line);
     if count_cells(line) == 4 {
-        let counts = read_numbers(&line[..last - 1], b"mesh", 0, &[COUNT_MOST; 2])?;
+        let counts = read_numbers::<2>(&line[..last - 1], b"mesh", 0, &[COUNT_MOST; 2])?;
         let total = read_signed(&line[last..], TOTAL_MOST)?;
         return Some(MeshLine {
             places: counts[0] as usize,

@@ -20,9 +20,9 @@ fn place_line(
     requires { PlaceReady text.now p i vertices.old }
     ensures { PlaceRead text.now p result i vertices.old vertices.new }
 {
-    let place = read_line(text, p.at, b"v", 0, &[NUMBER_MOST; 3]).ok_or(SheetRefusal::Malformed(
-        p.line,
-    ))?;
+    let place = read_line::<3>(text, p.at, b"v", 0, &[NUMBER_MOST; 3]).ok_or(
+        SheetRefusal::Malformed(p.line),
+    )?;
     let k = i * VERTEX_STRIDE;
     vertices[k] = place.numbers[0] as u16;
     vertices[k + 1] = place.numbers[1] as u16;

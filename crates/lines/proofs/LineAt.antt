@@ -3,15 +3,16 @@
 use Rattle.std.specs.Prelude.{Option, Some, None}
 use Rattle.std.proofs.lemmas.Option.{none-some, same_Some}
 use mathlib.Core.Path.{◌≡◌, refl, sym, ap, ◌∙◌}
-use mathlib.Core.List.{List}
+use mathlib.Core.List.{List, []}
 use Prim.Native.Nat.{ℕ, ◌+◌, ◌-◌, ◌≤◌, ◌<◌}
 use native.Mathlib.Omega.{arith}
-use lib.ListN.{length, drop}
+use lib.ListN.{length, drop, get_or}
 use Rattle.mem.specs.Slice.{view}
-use Rattle.rules.specs.Lines.{tab_byte, lf, parts, Numbers, numbers, malformed, numbers_of}
+use Rattle.rules.specs.Lines.{tab_byte, lf, parts, lines_of, Numbers, numbers, malformed, numbers_of}
 use Rattle.lines.specs.Scan.{place_of}
-use Rattle.lines.specs.Read.{said, line_end, reads, line_read, numbers_at}
-use Rattle.lines.specs.Taken.{numbers_at_lem, numbers_open}
+use Rattle.lines.specs.declared.line.LineRead.{LineRead}
+use Rattle.lines.specs.Read.{said, widened, line_end, reads, line_read, numbers_at}
+use Rattle.lines.specs.Taken.{numbers_at_lem, numbers_open, widened_whole}
 
 module _ (text : List ℕ) (p : ℕ) {e : ℕ} (q : e ≡ p + place_of lf (drop p text)) where
   -- what is said is said of the line, with the place behind it
@@ -26,21 +27,30 @@ module _ (text : List ℕ) (p : ℕ) {e : ℕ} (q : e ≡ p + place_of lf (drop 
   bad_line (numbers ms) x g = absurd (none-some _ (sym g ∙ x))
   bad_line malformed x g = refl
 
-  module _ (name : List ℕ) (least : ℕ) (mosts : List ℕ) where
+  module _ (name : List ℕ) (least : ℕ) (mosts : List ℕ) (N : ℕ) where
+    -- the numbers of the line at p, with zeros behind them, N in all
+    abbrev here : Numbers
+    here = widened N (numbers_at text p name least mosts)
+
     -- the numbers that are found up to the LF
-    module _ (h : e < length text) {d : Option (List ℕ)} (x : d ≡ said (numbers_of name least mosts (parts tab_byte (view text p (e - p))))) where
-      found : d ≡ said (numbers_at text p name least mosts)
+    module _ (h : e < length text) {d : Option (List ℕ)} (x : d ≡ said (widened N (numbers_of name least mosts (parts tab_byte (view text p (e - p)))))) where
+      found : d ≡ said here
       found =
           let k : e - p ≡ place_of lf (drop p text) = omega arith in
-          x ∙ ap said (rw k (sym (numbers_at_lem text p name least mosts (omega arith))))
+          x ∙ ap (λ (m : Numbers). said (widened N m)) (rw k (sym (numbers_at_lem text p name least mosts (omega arith))))
 
-      pub line_good : {N : ℕ} {ns : List ℕ} → d ≡ Some ns
-          → Some (reads ns (e + 1)) ≡ line_read {N = N} text p (numbers_at text p name least mosts)
-      line_good g = good_line (numbers_at text p name least mosts) found g
+      pub line_good : {ns : List ℕ} → d ≡ Some ns → Some (reads ns (e + 1)) ≡ line_read {N = N} text p here
+      line_good g = good_line here found g
 
-      pub line_bad : {N : ℕ} → d ≡ None → None ≡ line_read {N = N} text p (numbers_at text p name least mosts)
-      line_bad g = bad_line (numbers_at text p name least mosts) found g
+      pub line_bad : d ≡ None → None ≡ line_read {N = N} text p here
+      line_bad g = bad_line here found g
 
-    pub line_none : {N : ℕ} → length text ≤ e → None ≡ line_read {N = N} text p (numbers_at text p name least mosts)
-    unfolding line_read
+    pub line_none : length text ≤ e → None ≡ line_read {N = N} text p here
+    unfolding line_read widened
     line_none h = rw (numbers_open text p name least mosts (omega arith)) refl
+
+    -- with as many limits as numbers, no zero stands behind them
+    pub both_read : {d : Option (LineRead N)} → d ≡ line_read {N = N} text p here → length mosts ≡ N
+        → d ≡ line_read {N = N} text p (numbers_at text p name least mosts)
+    unfolding numbers_at
+    both_read x h = x ∙ ap (line_read {N = N} text p) (widened_whole N name least mosts (get_or (lines_of (drop p text)) 0 []) h)

@@ -1,6 +1,7 @@
 -- What the readers of lines answer, case by case. Definitions only.
 use Rattle.std.specs.Prelude.{◌≡◌, Bool, true, false, List, [], ◌∷◌, ◌++◌, ℕ, ◌+◌, ◌-◌, ◌≤◌, ◌<◌, length, take, drop, get_or, Option, Some, None}
 use Rattle.mem.specs.Slice.{splice}
+use Rattle.mem.specs.Zeros.{with_zeros}
 use Rattle.rules.specs.Lines.{tab_byte, lf, is_same_text, parts, Line, lines_of, decimal_in, Numbers, numbers, malformed, numbers_of}
 use Rattle.lines.specs.declared.line.LineRead.{LineRead}
 use Rattle.lines.specs.Scan.{place_of}
@@ -46,6 +47,11 @@ pub record LastCell (line : List ℕ) (p : ℕ) : Type 0 where
 unfoldable pub said : Numbers → Option (List ℕ)
 said (numbers ns) = Some ns
 said malformed = None
+
+-- the same with zeros behind the numbers, n in all
+unfoldable pub widened : ℕ → Numbers → Numbers
+widened n (numbers ns) = numbers (with_zeros n ns)
+widened n malformed = malformed
 
 -- the place behind the LF that ends the line at p
 unfoldable pub line_end : List ℕ → ℕ → ℕ

@@ -2,11 +2,11 @@
 -- Key: `line_at_lem`, `line_open`, `line_missing`: the line at a place; `taken`: a line with numbers is the first of the lines from its place on; `numbers_long`,
 -- `numbers_most`: its numbers keep their limits; `row_good`, `row_bad`: all of it, from the answer of `read_row`; `good_read`, `bad_read`: from that of
 -- `read_line`.
-use Rattle.std.specs.Prelude.{◌≡◌, Bool, true, false, ◌&&◌, cond, ℕ, zero, suc, ◌+◌, ◌≤◌, ◌<◌, leb, length, drop, get_or, Option, Some, None}
+use Rattle.std.specs.Prelude.{◌≡◌, Bool, true, false, ◌&&◌, cond, ℕ, zero, suc, ◌+◌, ◌-◌, ◌≤◌, ◌<◌, leb, length, drop, get_or, Option, Some, None}
 use Rattle.std.proofs.Math.Path.{refl, ap, subst}
 use Rattle.std.proofs.lemmas.Option.{none-some, same_Some}
 use Rattle.std.proofs.Common.{sym, ◌∙◌, true≢false, ⊎_elim, arith, drop_of_length-le, leb-true}
-use mathlib.Core.List.{List, [], ◌∷◌}
+use mathlib.Core.List.{List, [], ◌∷◌, append-nil}
 use Rattle.std.proofs.Math.ListN.{length-drop}
 use Rattle.ints.specs.Bools.{and_left, and_right}
 use Rattle.mem.specs.Slice.{view, splice}
@@ -14,7 +14,8 @@ use Rattle.mem.specs.Cases.{lt_or_le}
 use Rattle.rules.specs.Lines.{tab_byte, lf, is_empty, is_same_text, parts, Line, whole_lines, lines_of, is_decimal, value_from, decimal_in, Numbers, numbers, malformed, with_number, numbers_in, numbers_of}
 use Rattle.lines.specs.declared.line.LineRead.{LineRead}
 use Rattle.lines.specs.Scan.{place_of, part_next, part_last, parts_some}
-use Rattle.lines.specs.Read.{are_numbers, good_in, good_of, RowRead, line_end, reads, line_read, numbers_at}
+use Rattle.mem.specs.Zeros.{with_zeros}
+use Rattle.lines.specs.Read.{are_numbers, good_in, good_of, RowRead, widened, line_end, reads, line_read, numbers_at}
 
 -- ---- the line at a place of a text
 
@@ -150,6 +151,18 @@ module _ (name : List ℕ) (least : ℕ) (mosts : List ℕ) (l : Line) (ns : Lis
 
   pub numbers_most : (i : ℕ) → i < length mosts → (least ≤ get_or ns i 0) × (get_or ns i 0 ≤ get_or mosts i 0)
   numbers_most = (limited name least mosts l ns e).most
+
+-- with as many limits as numbers are asked for, no zero stands behind them
+widened_is : (n : ℕ) (name : List ℕ) (least : ℕ) (mosts : List ℕ) (l : Line) (r : Numbers) → numbers_of name least mosts l ≡ r → length mosts ≡ n → widened n r ≡ r
+unfolding widened with_zeros
+widened_is n name least mosts l (numbers ns) e h =
+    let k : n - length ns ≡ 0 = omega (arith, numbers_long name least mosts l ns e) in
+    rw k (ap numbers (append-nil ns))
+widened_is n name least mosts l malformed e h = refl
+
+pub widened_whole : (n : ℕ) (name : List ℕ) (least : ℕ) (mosts : List ℕ) (l : Line) → length mosts ≡ n
+    → widened n (numbers_of name least mosts l) ≡ numbers_of name least mosts l
+widened_whole n name least mosts l h = widened_is n name least mosts l (numbers_of name least mosts l) refl h
 
 -- the numbers of a line are those up to its first bad cell, of which there is none
 good_next : (n : ℕ) (gs ns : List ℕ) (r : Numbers) → ((ks : List ℕ) → r ≡ numbers ks → gs ≡ ks) → with_number n r ≡ numbers ns → n ∷ gs ≡ ns

@@ -1,6 +1,6 @@
 // The line at a place of a text.
 ghost use Rattle.std.specs.Prelude.{◌≡◌, ◌≤◌, length};
-ghost use Rattle.lines.specs.Read.{numbers_at, line_read};
+ghost use Rattle.lines.specs.Read.{numbers_at, widened, line_read};
 
 use crate::numbers::read_numbers;
 use crate::scan::find;
@@ -18,10 +18,11 @@ pub fn read_line<const N: usize>(
     at: usize,
     name: &[u8],
     least: u64,
-    mosts: &[u64; N],
+    mosts: &[u64],
 ) -> Option<LineRead<N>>
-    requires { at ≤ length text.now }
-    ensures { result ≡ line_read text.now at (numbers_at text.now at name.now least mosts.now) }
+    requires { (at ≤ length text.now) × (length mosts.now ≤ N) }
+    ensures read { result ≡ line_read text.now at (widened N (numbers_at text.now at name.now least mosts.now)) }
+    ensures whole { length mosts.now ≡ N → result ≡ line_read text.now at (numbers_at text.now at name.now least mosts.now) }
 {
     let e = find(text, at, b'\n');
     if e < text.len() {

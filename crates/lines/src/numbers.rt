@@ -1,7 +1,7 @@
 // A line of numbers.
 ghost use Rattle.std.specs.Prelude.{◌≡◌, ◌≤◌, length};
 ghost use Rattle.rules.specs.Lines.{tab_byte, parts, numbers_of};
-ghost use Rattle.lines.specs.Read.{said, RowRead};
+ghost use Rattle.lines.specs.Read.{said, widened, RowRead};
 
 use crate::decimal::read_decimal;
 use crate::scan::{find, is_same_text};
@@ -35,14 +35,16 @@ pub fn read_row(line: &[u8], name: &[u8], least: u64, mosts: &[u64], values: &mu
     false
 }
 
-// The numbers of a line that has this name and then a decimal for each of `mosts`, from `least` to that limit.
+// The numbers of a line that has this name and then a decimal for each of `mosts`, from `least` to that limit; 0 where there is none.
 pub fn read_numbers<const N: usize>(
     line: &[u8],
     name: &[u8],
     least: u64,
-    mosts: &[u64; N],
+    mosts: &[u64],
 ) -> Option<[u64; N]>
-    ensures { result ≡ said (numbers_of name.now least mosts.now (parts tab_byte line.now)) }
+    requires { length mosts.now ≤ N }
+    ensures read { result ≡ said (widened N (numbers_of name.now least mosts.now (parts tab_byte line.now))) }
+    ensures whole { length mosts.now ≡ N → result ≡ said (numbers_of name.now least mosts.now (parts tab_byte line.now)) }
 {
     let mut values = [0u64; N];
     if read_row(line, name, least, mosts, &mut values) {

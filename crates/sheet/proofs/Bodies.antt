@@ -91,7 +91,9 @@ module _ {text : List ℕ} {p : Progress} {ls rs cs ns : List ℕ} (ready : Line
   -- the reading ends at p
   stop : (e : SheetRefusal) → ((s : Sheet) → rest_of text p (so_far s p ls rs cs ns) ≡ refused_as e) → Stepped text p (Err e) ls rs cs ns ls rs cs ns
   unfolding Moved rest_as
-  stop e h = record { moved = Prim.tt; same = h }
+  stop e h =
+      let t = ready.standing in
+      record { moved = record { lengths = t.lengths; regions = t.regions; codes = t.codes; numbers = t.numbers }; same = h }
 
   -- ---- a contour line
   module _ (due : p.due ≡ 0) where
@@ -277,9 +279,9 @@ module _ {text : List ℕ} {from : ℕ} {p : Progress} {ls rs cs ns : List ℕ} 
     }
 
     pub going_refused : {z : SheetRefusal} → r ≡ Err z → BodyRead text from (Err z) ls' rs' cs' ns'
-    unfolding rest_as end_as CountedAs
+    unfolding rest_as end_as Moved CountedAs
     going_refused e = record {
-      counted = Prim.tt;
+      counted = subst (λ (x : Result Progress SheetRefusal). Moved text p x ls' rs' cs' ns') e t.moved;
       same = λ s. g.same s ∙ t.same s ∙ ap (λ (x : Result Progress SheetRefusal). rest_as text x ls' rs' cs' ns' s) e;
     }
 
@@ -291,10 +293,12 @@ module _ {text : List ℕ} {from : ℕ} {p : Progress} {ls rs cs ns : List ℕ} 
 
     pub going_due : 0 < p.due → BodyRead text from (Err (Malformed p.line)) ls rs cs ns
     unfolding end_as CountedAs refused_as number_of line_of
-    going_due d = record {
-      counted = Prim.tt;
-      same = λ s. g.same s ∙ no_lines (so_far s p ls rs cs ns) ∙ vertex_missing p.line p.due (so_far s p ls rs cs ns) d;
-    }
+    going_due d =
+        let t = g.standing in
+        record {
+          counted = record { lengths = t.lengths; regions = t.regions; codes = t.codes; numbers = t.numbers };
+          same = λ s. g.same s ∙ no_lines (so_far s p ls rs cs ns) ∙ vertex_missing p.line p.due (so_far s p ls rs cs ns) d;
+        }
 
     pub going_end : p.due ≤ 0 → BodyRead text from (Ok p) ls rs cs ns
     unfolding end_as CountedAs

@@ -200,19 +200,26 @@ pub record Standing (text : List ℕ) (p : Progress) (ls rs cs ns : List ℕ) : 
   pub numbers : length ns ≡ declared_most * job_stride
   pub declared : sum_over (λ n. n) (take p.contours ls) ≡ p.vertices + p.due
 
+-- there is room for 32 contours and 96 vertices
+pub record ListsReady (ls rs cs ns : List ℕ) : Type 0 where
+  pub lengths : length ls ≡ contours_most
+  pub regions : length rs ≡ contours_most
+  pub codes : length cs ≡ contours_most
+  pub numbers : length ns ≡ declared_most * job_stride
+
 -- a line can be read
 pub record LineReady (text : List ℕ) (p : Progress) (ls rs cs ns : List ℕ) : Type 0 where
   pub standing : Standing text p ls rs cs ns
   pub more : p.at < length text
 
--- behind a good line the lists have what the contours declare, and the place is further on
+-- behind a good line the lists have what the contours declare, and the place is further on; behind a bad one they have their room
 pub record Further (text : List ℕ) (p q : Progress) (ls rs cs ns : List ℕ) : Type 0 where
   pub standing : Standing text q ls rs cs ns
   pub further : p.at < q.at
 
 unfoldable pub Moved : List ℕ → Progress → Result Progress SheetRefusal → List ℕ → List ℕ → List ℕ → List ℕ → Type 0
 Moved text p (Ok q) ls rs cs ns = Further text p q ls rs cs ns
-Moved text p (Err e) ls rs cs ns = Unit {0}
+Moved text p (Err e) ls rs cs ns = ListsReady ls rs cs ns
 
 -- a line was read, and the rest comes to the same
 pub record Stepped (text : List ℕ) (p : Progress) (r : Result Progress SheetRefusal) (ls rs cs ns ls' rs' cs' ns' : List ℕ) : Type 0 where
@@ -228,14 +235,7 @@ pub record BodyReady (text : List ℕ) (from : ℕ) (ls rs cs ns : List ℕ) : T
   pub codes : length cs ≡ contours_most
   pub numbers : length ns ≡ declared_most * job_stride
 
--- there is room for 32 contours and 96 vertices
-pub record ListsReady (ls rs cs ns : List ℕ) : Type 0 where
-  pub lengths : length ls ≡ contours_most
-  pub regions : length rs ≡ contours_most
-  pub codes : length cs ≡ contours_most
-  pub numbers : length ns ≡ declared_most * job_stride
-
--- how many contours and vertices there are at the end, if all was read
+-- how many contours and vertices there are at the end, if all was read; the lists have their room in any case
 pub record Counted (p : Progress) (ls rs cs ns : List ℕ) : Type 0 where
   pub room : ListsReady ls rs cs ns
   pub contours : p.contours ≤ contours_most
@@ -244,7 +244,7 @@ pub record Counted (p : Progress) (ls rs cs ns : List ℕ) : Type 0 where
 
 unfoldable pub CountedAs : Result Progress SheetRefusal → List ℕ → List ℕ → List ℕ → List ℕ → Type 0
 CountedAs (Ok p) ls rs cs ns = Counted p ls rs cs ns
-CountedAs (Err e) ls rs cs ns = Unit {0}
+CountedAs (Err e) ls rs cs ns = ListsReady ls rs cs ns
 
 -- what stands in the lists at the end is what was read: for any sheet without contours
 pub record BodyRead (text : List ℕ) (from : ℕ) (r : Result Progress SheetRefusal) (ls rs cs ns : List ℕ) : Type 0 where

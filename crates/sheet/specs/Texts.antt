@@ -77,6 +77,12 @@ module _ (t ls rs cs ns : List ℕ) where
         } in
         record { found = f }
 
+    -- the lists have their room, whatever was read
+    pub held_of : (q : Result Progress SheetRefusal) → r ≡ q → ListsReady ls rs cs ns
+    unfolding CountedAs
+    held_of (Ok p) q = (subst (λ (a : Result Progress SheetRefusal). CountedAs a ls rs cs ns) q b.counted).room
+    held_of (Err e) q = subst (λ (a : Result Progress SheetRefusal). CountedAs a ls rs cs ns) q b.counted
+
 pub body_ready : {ls rs cs ns : List ℕ} (t : List ℕ) (r : Result Heading SheetRefusal) (x : Heading) → r ≡ Ok x → Behind t r → length t ≤ bytes_most → ListsReady ls rs cs ns
     → BodyReady t x.at ls rs cs ns
 unfolding BehindIs

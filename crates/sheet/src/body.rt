@@ -45,7 +45,7 @@ fn contour_line(
 {
     let full = CONTOURS_MOST < p.contours + 1;
     let mosts = [NUMBER_MOST, CODE_MOST, NUMBER_MOST];
-    let contour = read_line(text, p.at, b"contour", 0, &mosts).ok_or(SheetRefusal::Malformed(
+    let contour = read_line::<3>(text, p.at, b"contour", 0, &mosts).ok_or(SheetRefusal::Malformed(
         p.line,
     ))?;
     let n = contour.numbers[2] as usize;
@@ -70,9 +70,9 @@ fn vertex_line(text: &[u8], p: Progress, numbers: &mut [u16]) -> Result<Progress
     requires { VertexReady text.now p numbers.old }
     ensures { VertexRead text.now p result numbers.old numbers.new }
 {
-    let vertex = read_line(text, p.at, b"v", 0, &[NUMBER_MOST; 4]).ok_or(SheetRefusal::Malformed(
-        p.line,
-    ))?;
+    let vertex = read_line::<4>(text, p.at, b"v", 0, &[NUMBER_MOST; 4]).ok_or(
+        SheetRefusal::Malformed(p.line),
+    )?;
     let k = p.vertices * JOB_STRIDE;
     numbers[k] = vertex.numbers[0] as u16;
     numbers[k + 1] = vertex.numbers[1] as u16;

@@ -49,13 +49,13 @@ fn read_rest(text: &[u8], inches: bool, from: usize) -> Result<Heading, SheetRef
     ensures { (from_cell inches (lines_of (drop from text.now)) ≡ headed_as result)
         × BehindIs text.now (drop 3 (lines_of (drop from text.now))) result }
 {
-    let cell = read_line(text, from, b"cell", 1, &[CELL_MOST; 2]).ok_or(SheetRefusal::Malformed(
-        2,
-    ))?;
-    let limit = read_line(text, cell.next, b"nvp", 0, &[NUMBER_MOST]).ok_or(SheetRefusal::Malformed(
-        3,
-    ))?;
-    let grid = read_line(text, limit.next, b"grid", 0, &[NUMBER_MOST; 3]).ok_or(
+    let cell = read_line::<2>(text, from, b"cell", 1, &[CELL_MOST; 2]).ok_or(
+        SheetRefusal::Malformed(2),
+    )?;
+    let limit = read_line::<1>(text, cell.next, b"nvp", 0, &[NUMBER_MOST]).ok_or(
+        SheetRefusal::Malformed(3),
+    )?;
+    let grid = read_line::<3>(text, limit.next, b"grid", 0, &[NUMBER_MOST; 3]).ok_or(
         SheetRefusal::Malformed(4),
     )?;
     Ok(Heading {

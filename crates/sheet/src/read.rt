@@ -18,7 +18,8 @@ pub struct JobSheet {
 // The lines behind a heading.
 fn read_contours(text: &[u8], heading: Heading, lists: &mut Lists) -> Result<JobSheet, SheetRefusal>
     requires { BodyReady text.now heading.at lists.old.lengths lists.old.regions lists.old.codes lists.old.numbers }
-    ensures { ReadAs (goes_on text.now (Ok heading)) result lists.new.lengths lists.new.regions lists.new.codes lists.new.numbers }
+    ensures read { ReadAs (goes_on text.now (Ok heading)) result lists.new.lengths lists.new.regions lists.new.codes lists.new.numbers }
+    ensures held { ListsReady lists.new.lengths lists.new.regions lists.new.codes lists.new.numbers }
 {
     let end = read_body(text, heading.at, lists)?;
     Ok(JobSheet {
@@ -28,11 +29,12 @@ fn read_contours(text: &[u8], heading: Heading, lists: &mut Lists) -> Result<Job
     })
 }
 
-// What a sheet is found to be. Any bytes may be handed in; the lists have room for 32 contours and 96 vertices.
+// What a sheet is found to be. Any bytes may be handed in; the lists have room for 32 contours and 96 vertices, and keep it.
 pub fn read_sheet(text: &[u8], lists: &mut Lists) -> Result<JobSheet, SheetRefusal>
     requires { ListsReady lists.old.lengths lists.old.regions lists.old.codes lists.old.numbers }
     ensures read { ReadAs (read_bytes text.now) result lists.new.lengths lists.new.regions lists.new.codes lists.new.numbers }
     ensures counted { IfOk result (λ s. (s.contours ≤ 32) × (s.vertices ≤ 96)) }
+    ensures held { ListsReady lists.new.lengths lists.new.regions lists.new.codes lists.new.numbers }
 {
     if text.len() > 65536 {
         return Err(SheetRefusal::TooLong);

@@ -1,4 +1,5 @@
 -- `checksheet::places::place_line` meets its contract, by the line's numbers: three words set one by one are the three numbers. Assumes nothing.
+use mathlib.Core.Path.{refl}
 use native.Mathlib.Omega.{arith}
 use lib.ListN.{length-set}
 use Rattle.rules.specs.Lines.{ascii}
@@ -12,20 +13,20 @@ pub returns-in_err-place : goal.returns-in_err-place
 unfolding v_name ascii
 returns-in_err-place c =
     let none = refused_or _ _ _ c.ok_or.ensures.value c.in_err-place.was c.from_residual.ensures.1 in
-    rw none.1 (place_bad c.requires (bad_read _ _ _ _ _ c.read_line.ensures none.0))
+    rw none.1 (place_bad c.requires (bad_read _ _ _ _ _ (c.read_line.ensures.whole refl) none.0))
 
 pub overflow_cast-vertices : goal.overflow_cast-vertices
 unfolding v_name ascii
 overflow_cast-vertices c =
     let good_line : PlaceGood c.args.text.now c.args.p.at c.in_ok-place.place =
-    good_read _ _ _ _ _ c.read_line.ensures (found_or _ _ c.ok_or.ensures.value c.in_ok-place.was) in
+    good_read _ _ _ _ _ (c.read_line.ensures.whole refl) (found_or _ _ c.ok_or.ensures.value c.in_ok-place.was) in
     record { fits = omega (arith, place_most good_line) }
 
 pub overflow_cast-vertices-2 : goal.overflow_cast-vertices-2
 unfolding v_name ascii
 overflow_cast-vertices-2 c =
     let good_line : PlaceGood c.args.text.now c.args.p.at c.in_ok-place.place =
-    good_read _ _ _ _ _ c.read_line.ensures (found_or _ _ c.ok_or.ensures.value c.in_ok-place.was) in
+    good_read _ _ _ _ _ (c.read_line.ensures.whole refl) (found_or _ _ c.ok_or.ensures.value c.in_ok-place.was) in
     record { fits = omega (arith, place_most good_line) }
 
 pub bounds-vertices-k-2 : goal.bounds-vertices-k-2
@@ -35,7 +36,7 @@ pub overflow_cast-vertices-3 : goal.overflow_cast-vertices-3
 unfolding v_name ascii
 overflow_cast-vertices-3 c =
     let good_line : PlaceGood c.args.text.now c.args.p.at c.in_ok-place.place =
-    good_read _ _ _ _ _ c.read_line.ensures (found_or _ _ c.ok_or.ensures.value c.in_ok-place.was) in
+    good_read _ _ _ _ _ (c.read_line.ensures.whole refl) (found_or _ _ c.ok_or.ensures.value c.in_ok-place.was) in
     record { fits = omega (arith, place_most good_line) }
 
 pub bounds-vertices-k-3 : goal.bounds-vertices-k-3
@@ -45,5 +46,5 @@ pub returns : goal.returns
 unfolding v_name ascii
 returns c =
     let good_line : PlaceGood c.args.text.now c.args.p.at c.in_ok-place.place =
-    good_read _ _ _ _ _ c.read_line.ensures (found_or _ _ c.ok_or.ensures.value c.in_ok-place.was) in
+    good_read _ _ _ _ _ (c.read_line.ensures.whole refl) (found_or _ _ c.ok_or.ensures.value c.in_ok-place.was) in
     place_put c.requires good_line

@@ -1,4 +1,5 @@
 -- `sheet::body::contour_line` meets its contract, by the line's numbers and by the test for too many. Assumes nothing.
+use mathlib.Core.Path.{refl}
 use native.Mathlib.Omega.{arith}
 use Rattle.rules.specs.Sheet.{contour_name}
 use Rattle.rules.specs.Lines.{ascii}
@@ -13,20 +14,20 @@ unfolding contour_name ascii
 returns-in_err-contour c =
     let a = c.args in
     let none = refused_or _ _ _ c.ok_or.ensures.value c.in_err-contour.was c.from_residual.ensures.1 in
-    rw none.1 (contour_bad a.text.now a.p a.lengths.now a.regions.now a.codes.now (bad_read _ _ _ _ _ c.read_line.ensures none.0))
+    rw none.1 (contour_bad a.text.now a.p a.lengths.now a.regions.now a.codes.now (bad_read _ _ _ _ _ (c.read_line.ensures.whole refl) none.0))
 
 pub overflow_add-p : goal.overflow_add-p
 unfolding contour_name ascii
 overflow_add-p c =
     let good_line : ContourGood c.args.text.now c.args.p.at c.in_ok-contour.contour =
-    good_read _ _ _ _ _ c.read_line.ensures (found_or _ _ c.ok_or.ensures.value c.in_ok-contour.was) in
+    good_read _ _ _ _ _ (c.read_line.ensures.whole refl) (found_or _ _ c.ok_or.ensures.value c.in_ok-contour.was) in
     record { fits = omega (arith, contour_most good_line, c.requires.within.room) }
 
 pub returns-then-full-p : goal.returns-then-full-p
 unfolding is_over contour_name ascii
 returns-then-full-p c =
     let good_line : ContourGood c.args.text.now c.args.p.at c.in_ok-contour.contour =
-    good_read _ _ _ _ _ c.read_line.ensures (found_or _ _ c.ok_or.ensures.value c.in_ok-contour.was) in
+    good_read _ _ _ _ _ (c.read_line.ensures.whole refl) (found_or _ _ c.ok_or.ensures.value c.in_ok-contour.was) in
     let a = c.args in
     contour_over a.text.now a.p a.lengths.now a.regions.now a.codes.now good_line c.if-full-p.true
 
@@ -34,7 +35,7 @@ pub overflow_cast-lengths : goal.overflow_cast-lengths
 unfolding contour_name ascii
 overflow_cast-lengths c =
     let good_line : ContourGood c.args.text.now c.args.p.at c.in_ok-contour.contour =
-    good_read _ _ _ _ _ c.read_line.ensures (found_or _ _ c.ok_or.ensures.value c.in_ok-contour.was) in
+    good_read _ _ _ _ _ (c.read_line.ensures.whole refl) (found_or _ _ c.ok_or.ensures.value c.in_ok-contour.was) in
     record { fits = omega (arith, contour_most good_line) }
 
 pub bounds-lengths-k : goal.bounds-lengths-k
@@ -45,7 +46,7 @@ pub overflow_cast-regions : goal.overflow_cast-regions
 unfolding contour_name ascii
 overflow_cast-regions c =
     let good_line : ContourGood c.args.text.now c.args.p.at c.in_ok-contour.contour =
-    good_read _ _ _ _ _ c.read_line.ensures (found_or _ _ c.ok_or.ensures.value c.in_ok-contour.was) in
+    good_read _ _ _ _ _ (c.read_line.ensures.whole refl) (found_or _ _ c.ok_or.ensures.value c.in_ok-contour.was) in
     record { fits = omega (arith, contour_most good_line) }
 
 pub bounds-regions-k : goal.bounds-regions-k
@@ -56,7 +57,7 @@ pub overflow_cast-codes : goal.overflow_cast-codes
 unfolding contour_name ascii
 overflow_cast-codes c =
     let good_line : ContourGood c.args.text.now c.args.p.at c.in_ok-contour.contour =
-    good_read _ _ _ _ _ c.read_line.ensures (found_or _ _ c.ok_or.ensures.value c.in_ok-contour.was) in
+    good_read _ _ _ _ _ (c.read_line.ensures.whole refl) (found_or _ _ c.ok_or.ensures.value c.in_ok-contour.was) in
     record { fits = omega (arith, contour_most good_line) }
 
 pub bounds-codes-k : goal.bounds-codes-k
@@ -73,6 +74,6 @@ pub returns : goal.returns
 unfolding is_over contour_name ascii
 returns c =
     let good_line : ContourGood c.args.text.now c.args.p.at c.in_ok-contour.contour =
-    good_read _ _ _ _ _ c.read_line.ensures (found_or _ _ c.ok_or.ensures.value c.in_ok-contour.was) in
+    good_read _ _ _ _ _ (c.read_line.ensures.whole refl) (found_or _ _ c.ok_or.ensures.value c.in_ok-contour.was) in
     let a = c.args in
     contour_put a.text.now a.p a.lengths.now a.regions.now a.codes.now good_line c.if-full-p.false

@@ -1,4 +1,5 @@
 -- `sheet::body::vertex_line` meets its contract, by the line's numbers: four words set one by one are the four numbers. Assumes nothing.
+use mathlib.Core.Path.{refl}
 use native.Mathlib.Omega.{arith}
 use lib.ListN.{length-set}
 use Rattle.rules.specs.Sheet.{v_name}
@@ -13,20 +14,20 @@ unfolding v_name ascii
 returns-in_err-vertex c =
     let a = c.args in
     let none = refused_or _ _ _ c.ok_or.ensures.value c.in_err-vertex.was c.from_residual.ensures.1 in
-    rw none.1 (vertex_bad a.text.now a.p a.numbers.now (bad_read _ _ _ _ _ c.read_line.ensures none.0))
+    rw none.1 (vertex_bad a.text.now a.p a.numbers.now (bad_read _ _ _ _ _ (c.read_line.ensures.whole refl) none.0))
 
 pub overflow_cast-numbers : goal.overflow_cast-numbers
 unfolding v_name ascii
 overflow_cast-numbers c =
     let good_line : VertexGood c.args.text.now c.args.p.at c.in_ok-vertex.vertex =
-    good_read _ _ _ _ _ c.read_line.ensures (found_or _ _ c.ok_or.ensures.value c.in_ok-vertex.was) in
+    good_read _ _ _ _ _ (c.read_line.ensures.whole refl) (found_or _ _ c.ok_or.ensures.value c.in_ok-vertex.was) in
     record { fits = omega (arith, vertex_most good_line) }
 
 pub overflow_cast-numbers-2 : goal.overflow_cast-numbers-2
 unfolding v_name ascii
 overflow_cast-numbers-2 c =
     let good_line : VertexGood c.args.text.now c.args.p.at c.in_ok-vertex.vertex =
-    good_read _ _ _ _ _ c.read_line.ensures (found_or _ _ c.ok_or.ensures.value c.in_ok-vertex.was) in
+    good_read _ _ _ _ _ (c.read_line.ensures.whole refl) (found_or _ _ c.ok_or.ensures.value c.in_ok-vertex.was) in
     record { fits = omega (arith, vertex_most good_line) }
 
 pub bounds-numbers-k-2 : goal.bounds-numbers-k-2
@@ -36,7 +37,7 @@ pub overflow_cast-numbers-3 : goal.overflow_cast-numbers-3
 unfolding v_name ascii
 overflow_cast-numbers-3 c =
     let good_line : VertexGood c.args.text.now c.args.p.at c.in_ok-vertex.vertex =
-    good_read _ _ _ _ _ c.read_line.ensures (found_or _ _ c.ok_or.ensures.value c.in_ok-vertex.was) in
+    good_read _ _ _ _ _ (c.read_line.ensures.whole refl) (found_or _ _ c.ok_or.ensures.value c.in_ok-vertex.was) in
     record { fits = omega (arith, vertex_most good_line) }
 
 pub bounds-numbers-k-3 : goal.bounds-numbers-k-3
@@ -46,7 +47,7 @@ pub overflow_cast-numbers-4 : goal.overflow_cast-numbers-4
 unfolding v_name ascii
 overflow_cast-numbers-4 c =
     let good_line : VertexGood c.args.text.now c.args.p.at c.in_ok-vertex.vertex =
-    good_read _ _ _ _ _ c.read_line.ensures (found_or _ _ c.ok_or.ensures.value c.in_ok-vertex.was) in
+    good_read _ _ _ _ _ (c.read_line.ensures.whole refl) (found_or _ _ c.ok_or.ensures.value c.in_ok-vertex.was) in
     record { fits = omega (arith, vertex_most good_line) }
 
 pub bounds-numbers-k-4 : goal.bounds-numbers-k-4
@@ -65,5 +66,5 @@ pub returns : goal.returns
 unfolding v_name ascii
 returns c =
     let good_line : VertexGood c.args.text.now c.args.p.at c.in_ok-vertex.vertex =
-    good_read _ _ _ _ _ c.read_line.ensures (found_or _ _ c.ok_or.ensures.value c.in_ok-vertex.was) in
+    good_read _ _ _ _ _ (c.read_line.ensures.whole refl) (found_or _ _ c.ok_or.ensures.value c.in_ok-vertex.was) in
     let a = c.args in vertex_put a.text.now a.p a.numbers.now good_line

@@ -6,7 +6,7 @@ use Rattle.sheet.proofs.read.read_sheet.Goals as goal
 pub returns-then-text-gt65536 : goal.returns-then-text-gt65536
 returns-then-text-gt65536 c =
     let read = long_read c.args.text.now _ _ _ _ c.if-text-gt65536.true in
-    record { read = read; counted = counted_as _ read }
+    record { read = read; counted = counted_as _ read; held = c.requires }
 
 pub read_contours-requires : goal.read_contours-requires
 read_contours-requires c =
@@ -15,10 +15,10 @@ read_contours-requires c =
 pub returns-in_err-heading : goal.returns-in_err-heading
 returns-in_err-heading c =
     let read = bad_heading c.args.text.now _ _ _ _ c.if-text-gt65536.false c.read_heading.result c.read_heading.ensures.0 c.read_heading.ensures.1 _ c.in_err-heading.was in
-    rw (passed_on _ c.from_residual.ensures.1) record { read = read; counted = counted_as _ read }
+    rw (passed_on _ c.from_residual.ensures.1) record { read = read; counted = counted_as _ read; held = c.requires }
 
 pub returns : goal.returns
 returns c =
     let read = good_heading c.args.text.now _ _ _ _ c.if-text-gt65536.false c.read_heading.result c.read_heading.ensures.0 c.read_heading.ensures.1
-    c.in_ok-heading.heading c.read_contours.result c.in_ok-heading.was c.read_contours.ensures in
-    record { read = read; counted = counted_as _ read }
+    c.in_ok-heading.heading c.read_contours.result c.in_ok-heading.was c.read_contours.ensures.read in
+    record { read = read; counted = counted_as _ read; held = c.read_contours.ensures.held }
