@@ -4,7 +4,7 @@ use Rattle.std.specs.Prelude.{◌≡◌, refl, List, [], ◌∷◌, ℕ, ◌+◌
 use Rattle.mem.specs.Loops.{over}
 use Rattle.rules.specs.Lists.{when, or_else}
 use Rattle.rules.specs.Job.{Job, vertex_at, flag_at, count_all, count_v, count_t}
-use Rattle.rules.specs.Checks.{Checked, passed, refusal, vertex_stride, work_words, least_lengths, is_high, first_high, first_bad_flag}
+use Rattle.rules.specs.Checks.{Checked, passed, refusal, or_next, vertex_stride, work_words, least_lengths, is_high, first_high, first_bad_flag}
 use Rattle.rules.specs.declared.Refusal.{Refusal}
 use Rattle.rules.specs.declared.Grid.{Grid}
 use Rattle.checks.specs.declared.contour_set.ContourSet.{ContourSet}
@@ -25,6 +25,16 @@ no_grid = record { w = 0; h = 0; border = 0 }
 unfoldable pub verdict_of : Checked → Result ⊤ Refusal
 verdict_of passed = Ok tt
 verdict_of (refusal r) = Err r
+
+-- the first of two verdicts that refuses: the rules' `or_next`, of verdicts
+unfoldable pub first_of : Result ⊤ Refusal → Result ⊤ Refusal → Result ⊤ Refusal
+first_of (Ok _) v = v
+first_of (Err r) v = Err r
+
+pub first_of_lem : (a b : Checked) → verdict_of (or_next a b) ≡ first_of (verdict_of a) (verdict_of b)
+unfolding verdict_of first_of or_next
+first_of_lem passed b = refl
+first_of_lem (refusal r) b = refl
 
 -- for those who call: what the verdict says of the rules' own check
 pub is_passed : (c : Checked) → verdict_of c ≡ Ok tt → c ≡ passed

@@ -2,13 +2,13 @@
 -- Key: `polygons_are`: the polygons read from records are those that the records were made of; `put_are`: one of them written anew.
 use Rattle.std.specs.Prelude.{◌≡◌, List, [], ◌∷◌, ◌++◌, ℕ, zero, suc, ◌+◌, ◌-◌, ◌*◌, ◌≤◌, ◌<◌, length, drop, get_or, set, replicate}
 use Rattle.std.proofs.Math.Path.{refl, ap}
-use Rattle.std.proofs.Common.{sym, ◌∙◌, arith, add-zero, zero-add, length-append, length-take, length-drop, take_all, take_at, take-suc-set, length-take-le, get_or-take}
+use Rattle.std.proofs.Common.{sym, ◌∙◌, append_assoc, arith, add-zero, zero-add, length-append, length-take, length-drop, take_all, take_at, take-suc-set, length-take-le, get_or-take}
 use Rattle.std.proofs.Math.Nat.{sub-zero, zero-sub, suc-sub-suc}
 use Rattle.std.proofs.Math.ListN.{take, length-set}
 use Rattle.std.proofs.lemmas.List.{length-replicate, take-append-le}
 use borrow.Rule.Slice.PartMut.{put_mid, mid_of}
-use Rattle.mem.specs.Slice.{view, splice, length_splice, splice_over, splice_eq, length_view, view_view, get_or_view, splice_append, set_each, stored_each}
-use Rattle.mem.specs.Tab.{blocks, get_or_blocks, length_blocks, take_tab}
+use Rattle.mem.specs.Slice.{view, splice, length_splice, splice_over, splice_eq, length_view, view_view, get_or_view, splice_append, write_step, set_each, stored_each}
+use Rattle.mem.specs.Tab.{blocks, get_or_blocks, length_blocks, Filled, filled_all, tab_view, tab_take, take_tab}
 use Rattle.mem.specs.Packed.{Every, every_at, every_set, length_packed, packed_append, packed_put, unpacked}
 use Rattle.rules.specs.Lists.{next, swap_remove}
 use Rattle.rules.specs.Links.{none}
@@ -180,6 +180,36 @@ module _ (w : List ℕ) (at : ℕ) (fits : at + polygon_size ≤ length w) where
       rw (same, drop_replicate n most_corners, long) in
       rw (in_view n (get_or w (at + 1) 0) (get_or w (at + 2) 0) (sym e) (omega arith) refl refl)
       (record { is = poly_eq _ _ made (sym long) refl refl; count = sym long; most = omega arith })
+
+  -- the same of corners that are filled in one after the other
+  pub loaded_filled : {n i : ℕ} {c : List ℕ} → n ≡ get_or w at 0 → get_or w at 0 ≤ most_corners
+      → Filled (replicate most_corners none) 0 (λ k. get_or w (at + 3 + k) 0) n c i → n ≤ i
+      → Loaded (polygon_in (view w at polygon_size)) (record { corners = c; n = n; region = get_or w (at + 1) 0; code = get_or w (at + 2) 0 })
+  loaded_filled {n} {i} {c} e h f l =
+      let cs : List ℕ = view w (at + 3) n in
+      let long : length cs ≡ n = length_view w (at + 3) n (omega arith) in
+      let made : c ≡ padded most_corners cs = filled_all f l ∙ rw (tab_view w (at + 3) n 0 (omega arith)) (padded_splice most_corners cs (omega arith)) in
+      rw (in_view n (get_or w (at + 1) 0) (get_or w (at + 2) 0) (sym e) (omega arith) refl refl)
+      (record { is = poly_eq _ _ made (sym long) refl refl; count = sym long; most = omega arith })
+
+-- the three first words, the corners one after the other, and three words behind them are written
+pub stored_all : (w : List ℕ) (at : ℕ) (p : Poly) {v : List ℕ} {i : ℕ} → length p.corners ≡ most_corners
+    → Filled (set (set (set w at p.n) (at + 1) p.region) (at + 2) p.code) (at + 3) (λ k. get_or p.corners k 0) most_corners v i → most_corners ≤ i
+    → set (set (set v (at + 15) 0) (at + 15 + 1) 0) (at + 15 + 2) 0 ≡ splice w at (poly_words p)
+unfolding poly_words set_each
+stored_all w at p {v} {i} l f h =
+    let xs : List ℕ = p.n ∷ p.region ∷ p.code ∷ [] in
+    let e : set (set (set w at p.n) (at + 1) p.region) (at + 2) p.code ≡ splice w at xs =
+    stored_each w at p.n (p.region ∷ p.code ∷ []) in
+    let g : v ≡ splice w at (xs ++ p.corners) =
+    filled_all f h ∙ rw (e, tab_take p.corners most_corners 0 (omega arith), take_all most_corners p.corners (omega arith)) (splice_append w at xs p.corners) in
+    let a : at + 15 + 1 ≡ at + 16 = omega arith in
+    let b : at + 15 + 2 ≡ at + 17 = omega arith in
+    rw (a, b)
+    (ap (λ (u : List ℕ). set (set u (at + 16) 0) (at + 17) 0) (write_step w at 15 (xs ++ p.corners) 0 g (omega arith))
+    ∙ ap (λ (u : List ℕ). set u (at + 17) 0) (write_step w at 16 ((xs ++ p.corners) ++ (0 ∷ [])) 0 refl (simp length-append (omega arith)))
+    ∙ write_step w at 17 (((xs ++ p.corners) ++ (0 ∷ [])) ++ (0 ∷ [])) 0 refl (simp length-append (omega arith))
+    ∙ ap (splice w at) (ap (λ (u : List ℕ). u ++ (0 ∷ [])) (append_assoc (xs ++ p.corners) (0 ∷ []) (0 ∷ [])) ∙ append_assoc (xs ++ p.corners) (0 ∷ 0 ∷ []) (0 ∷ [])))
 
 -- the three first words, the corners and the words behind them are written
 pub stored_poly : (w : List ℕ) (at : ℕ) (p : Poly) {v cs zs : List ℕ} → length p.corners ≡ most_corners → cs ≡ p.corners

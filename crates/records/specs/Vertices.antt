@@ -7,7 +7,7 @@ use Rattle.std.proofs.Common.{◌∙◌, append-nil, ⊎_elim, arith, add-zero, 
 use Rattle.std.proofs.Math.ListN.{get_or, get_or-append}
 use Rattle.std.proofs.Math.Seq.{ext_get_or}
 use Rattle.std.proofs.lemmas.List.{get_or_at}
-use Rattle.mem.specs.Slice.{view, splice, get_or_view, splice_view}
+use Rattle.mem.specs.Slice.{view, splice, get_or_view, splice_view, set_each, stored_each}
 use Rattle.mem.specs.Tab.{tab, tab_snoc, tab_cong, length_tab, get_or_tab, blocks, length_blocks, get_or_blocks}
 use Rattle.mem.specs.Packed.{Every, every_of, packed, packed_append, packed_take, packed_drop, packed_set, length_packed, packed_at}
 use Rattle.mem.specs.Cases.{lt_or_le, eq_or_ne}
@@ -58,6 +58,11 @@ module _ (w : List ℕ) (o n k : ℕ) (h : k < n) where
       (s, rw s (g.grid k))
 
 -- the five stores of a vertex
+pub stored_vertex : (w : List ℕ) (at : ℕ) (v : Vertex) (m : ℕ)
+    → set (set (set (set (set w at v.x) (at + 1) v.y) (at + 2) v.z) (at + 3) m) (at + 4) 0 ≡ splice w at (vertex_words v m)
+unfolding vertex_words set_each
+stored_vertex w at v m = stored_each w at v.x (v.y ∷ v.z ∷ m ∷ 0 ∷ [])
+
 -- ---- the words of vertices vs with marks ms
 
 Any : Marked → Type 0
