@@ -18,7 +18,7 @@ use words::fill::fill;
 fn count_in(s: &[u32], v: u32) -> usize
     ensures { result ≡ count v s.now }
 {
-    s.iter().filter(|x| **x == v).count()
+    s.iter().map(|x| usize::from(*x == v)).sum()
 }
 
 // How often a polygon holds the vertex.

@@ -19,7 +19,9 @@ pub fn is_held(work: &[u32], polygons: Run, i: usize, rem: u32) -> bool
     requires { (polygons.at + polygons.n * polygon_size ≤ length work.now) × (i < polygons.n) × Small (polygon_at (polygons_at work.now polygons.at polygons.n) i) }
     ensures { result ≡ ltb 0 (holds rem (polygon_at (polygons_at work.now polygons.at polygons.n) i)) }
 {
-    corners_from(work, polygons.at + i * POLYGON_SIZE).contains(&rem)
+    corners_from(work, polygons.at + i * POLYGON_SIZE)
+        .iter()
+        .any(|c| *c == rem)
 }
 
 // A vertex's number once the vertex `rem` has gone.
