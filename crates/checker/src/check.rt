@@ -75,11 +75,18 @@ pub fn soundness_of(
 }
 
 // 44, of np polygons over nv vertices.
-fn area_verdict(mesh: &Mesh<'_>, np: usize, nv: usize, claim: i64) -> Result<(), Objection>
-    requires { MeshReady mesh.now.nvp np nv mesh.now.vertices.now mesh.now.polygons.now }
-    ensures { result ≡ cond (is_zero (stored_area (stored_in mesh.now.nvp np nv mesh.now.vertices.now mesh.now.polygons.now) -ℤ claim)) (Ok tt) (Err BadArea) }
+fn area_verdict(
+    nvp: usize,
+    np: usize,
+    nv: usize,
+    claim: i64,
+    vertices: &[u16],
+    polygons: &[u16],
+) -> Result<(), Objection>
+    requires { MeshReady nvp np nv vertices.now polygons.now }
+    ensures { result ≡ cond (is_zero (stored_area (stored_in nvp np nv vertices.now polygons.now) -ℤ claim)) (Ok tt) (Err BadArea) }
 {
-    if mesh_area(mesh.nvp, np, nv, mesh.vertices, mesh.polygons) == claim {
+    if mesh_area(nvp, np, nv, vertices, polygons) == claim {
         return Ok(());
     }
     Err(Objection::BadArea)
@@ -94,7 +101,14 @@ fn sound_verdict(mesh: &Mesh<'_>, grid: Grid, claim: i64) -> Result<(), Objectio
     let np = mesh.polygons.len() / mesh.nvp;
     match first_bad_portals(mesh, np, grid) {
         Some(i) => Err(Objection::BadPortals(i as u64)),
-        None => area_verdict(mesh, np, mesh.vertices.len() / VERTEX_STRIDE, claim),
+        None => area_verdict(
+            mesh.nvp,
+            np,
+            mesh.vertices.len() / VERTEX_STRIDE,
+            claim,
+            mesh.vertices,
+            mesh.polygons,
+        ),
     }
 }
 
