@@ -27,27 +27,41 @@ module _ (text : List ℕ) (p : ℕ) {e : ℕ} (q : e ≡ p + place_of lf (drop 
   bad_line (numbers ms) x g = absurd (none-some _ (sym g ∙ x))
   bad_line malformed x g = refl
 
+  module _ (name : List ℕ) (least : ℕ) (mosts : List ℕ) where
+    -- the numbers that are found up to the LF, whatever f makes of them
+    module _ (h : e < length text) (f : Numbers → Numbers) {d : Option (List ℕ)} where
+      found : d ≡ said (f (numbers_of name least mosts (parts tab_byte (view text p (e - p))))) → d ≡ said (f (numbers_at text p name least mosts))
+      found x =
+          let k : e - p ≡ place_of lf (drop p text) = omega arith in
+          x ∙ ap (λ (m : Numbers). said (f m)) (rw k (sym (numbers_at_lem text p name least mosts (omega arith))))
+
+    module _ (h : e < length text) {d : Option (List ℕ)} (x : d ≡ said (numbers_of name least mosts (parts tab_byte (view text p (e - p))))) where
+      pub line_good : {N : ℕ} {ns : List ℕ} → d ≡ Some ns
+          → Some (reads ns (e + 1)) ≡ line_read {N = N} text p (numbers_at text p name least mosts)
+      line_good g = good_line (numbers_at text p name least mosts) (found h (λ (m : Numbers). m) x) g
+
+      pub line_bad : {N : ℕ} → d ≡ None → None ≡ line_read {N = N} text p (numbers_at text p name least mosts)
+      line_bad g = bad_line (numbers_at text p name least mosts) (found h (λ (m : Numbers). m) x) g
+
+    pub line_none : {N : ℕ} → length text ≤ e → None ≡ line_read {N = N} text p (numbers_at text p name least mosts)
+    unfolding line_read
+    line_none h = rw (numbers_open text p name least mosts (omega arith)) refl
+
+  -- the same with zeros behind the numbers, N in all
   module _ (name : List ℕ) (least : ℕ) (mosts : List ℕ) (N : ℕ) where
-    -- the numbers of the line at p, with zeros behind them, N in all
     abbrev here : Numbers
     here = widened N (numbers_at text p name least mosts)
 
-    -- the numbers that are found up to the LF
     module _ (h : e < length text) {d : Option (List ℕ)} (x : d ≡ said (widened N (numbers_of name least mosts (parts tab_byte (view text p (e - p)))))) where
-      found : d ≡ said here
-      found =
-          let k : e - p ≡ place_of lf (drop p text) = omega arith in
-          x ∙ ap (λ (m : Numbers). said (widened N m)) (rw k (sym (numbers_at_lem text p name least mosts (omega arith))))
+      pub good_widened : {ns : List ℕ} → d ≡ Some ns → Some (reads ns (e + 1)) ≡ line_read {N = N} text p here
+      good_widened g = good_line here (found name least mosts h (widened N) x) g
 
-      pub line_good : {ns : List ℕ} → d ≡ Some ns → Some (reads ns (e + 1)) ≡ line_read {N = N} text p here
-      line_good g = good_line here found g
+      pub bad_widened : d ≡ None → None ≡ line_read {N = N} text p here
+      bad_widened g = bad_line here (found name least mosts h (widened N) x) g
 
-      pub line_bad : d ≡ None → None ≡ line_read {N = N} text p here
-      line_bad g = bad_line here found g
-
-    pub line_none : length text ≤ e → None ≡ line_read {N = N} text p here
+    pub none_widened : length text ≤ e → None ≡ line_read {N = N} text p here
     unfolding line_read widened
-    line_none h = rw (numbers_open text p name least mosts (omega arith)) refl
+    none_widened h = rw (numbers_open text p name least mosts (omega arith)) refl
 
     -- with as many limits as numbers, no zero stands behind them
     pub both_read : {d : Option (LineRead N)} → d ≡ line_read {N = N} text p here → length mosts ≡ N

@@ -12,7 +12,7 @@ use lib.Dec.{eqb}
 use lib.ListN.{length, take, drop, get_or, set, replicate, length-append, length-set, length-replicate, drop_of_length-le}
 use lib.Seq.{append_snoc}
 use borrow.Author.Tests.{eqb-true, eqb-false}
-use Rattle.mem.specs.Slice.{view, splice, splice_nil, splice_eq, write_step}
+use Rattle.mem.specs.Slice.{view, splice, splice_nil, splice_whole, splice_eq, write_step}
 use Rattle.mem.specs.Zeros.{with_zeros, drop_replicate}
 use Rattle.rules.specs.Lines.{tab_byte, is_same_text, parts, Line, decimal_in, Numbers, numbers, malformed, with_number, numbers_in, numbers_of}
 use Rattle.lines.specs.Scan.{place_of, parts_some}
@@ -163,7 +163,7 @@ module _ {line name : List ℕ} {least : ℕ} {mosts v values : List ℕ} {at i 
       | false ↦ λ e. too_many (eqb-false at (length line) e)
     ]) refl
 
--- ---- the words of a good line are its numbers, with zeros behind them
+-- ---- the words of a good line are its numbers
 
 zeros_splice : (n : ℕ) (xs : List ℕ) → length xs ≤ n → splice (replicate n 0) 0 xs ≡ with_zeros n xs
 unfolding with_zeros
@@ -172,17 +172,30 @@ zeros_splice n xs h =
     ∙ ap (λ (r : List ℕ). xs ++ r) (rw (zero-add (length xs)) (drop_replicate {A = ℕ} (length xs) n 0))
 
 module _ {name : List ℕ} {least : ℕ} {mosts : List ℕ} {l : Line} {r : Bool} {v w : List ℕ} (x : RowRead name least mosts l r v w) where
+  -- as many words as limits
+  pub row_said : r ≡ true → length mosts ≡ length v → Some w ≡ said (numbers_of name least mosts l)
+  unfolding said
+  row_said e h =
+      let g = row_good x e in
+      let q : w ≡ g.ns = g.put ∙ splice_whole v g.ns (g.limits.long ∙ h) in
+      ap Some q ∙ sym (ap said g.says)
+
+  pub row_unsaid : r ≡ false → None ≡ said (numbers_of name least mosts l)
+  unfolding said
+  row_unsaid e = rw (row_bad x e) refl
+
+  -- n zeros, which are at least as many: those that no number takes stand behind the numbers
   module _ (n : ℕ) (z : v ≡ replicate n 0) (h : length mosts ≤ n) where
-    pub row_said : r ≡ true → Some w ≡ said (widened n (numbers_of name least mosts l))
+    pub said_widened : r ≡ true → Some w ≡ said (widened n (numbers_of name least mosts l))
     unfolding said widened
-    row_said e =
+    said_widened e =
         let g = row_good x e in
         let q : w ≡ with_zeros n g.ns = g.put ∙ ap (λ (u : List ℕ). splice u 0 g.ns) z ∙ zeros_splice n g.ns (omega (arith, g.limits.long)) in
         ap Some q ∙ sym (ap (λ (m : Numbers). said (widened n m)) g.says)
 
-    pub row_unsaid : r ≡ false → None ≡ said (widened n (numbers_of name least mosts l))
+    pub unsaid_widened : r ≡ false → None ≡ said (widened n (numbers_of name least mosts l))
     unfolding said widened
-    row_unsaid e = rw (row_bad x e) refl
+    unsaid_widened e = rw (row_bad x e) refl
 
 -- with as many limits as there is room for, no zero stands behind the numbers
 pub both_said : (n : ℕ) (name : List ℕ) (least : ℕ) (mosts : List ℕ) (l : Line) {d : Option (List ℕ)} → d ≡ said (widened n (numbers_of name least mosts l))
